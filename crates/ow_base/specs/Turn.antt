@@ -1,0 +1,62 @@
+-- Turn: one user instruction, or one trap.
+use Rattle.std.specs.Prelude.{ℕ, ◌+◌, ◌-◌, nat_lt, ◌==◌, if◌then◌else◌, Option, Some, None}
+use Rattle.ow_base.specs.UserStep.{Stepped, Next, Call, Faulted, user_step}
+use Rattle.ow_base.specs.Pages.{Pages, page_space}
+use Rattle.ow_base.specs.Unix.{Unix, Process, Position, AtKernel, AtUser, AtPanic}
+use Rattle.ow_base.specs.Choice.{chosen, settled, is_any_live}
+use Rattle.ow_base.specs.Calls.{trapped, with_process, ended_as, entered, piece_of}
+use Rattle.ow_base.specs.declared.machine.Shape.{Shape}
+use Rattle.ow_base.specs.declared.worlds.Ending.{Ending}
+use Rattle.ow_base.specs.declared.worlds.Ending.TheVariants.{Done, Budget}
+
+-- the step that a process makes in user mode
+unfoldable pub step_of : Process → Stepped Pages
+step_of p = user_step page_space p.bank.regs p.bank.pc p.pages
+
+-- after that step: it counts, or it is a call or a fault, whose status word is 0x200 + cause
+unfoldable pub stepped : Unix → (pid count : ℕ) → Process → Stepped Pages → Unix
+stepped u pid count p (Next regs pc pages) =
+    record (with_process u pid (record p { bank = record { pc = pc; regs = regs }; pages = pages })) {
+      steps = u.steps + 1;
+      position = AtUser pid (count + 1);
+    }
+stepped u pid count p Call = entered u pid p
+stepped u pid count p (Faulted fault) = ended_as (trapped u pid) pid p (0x200 + fault.cause)
+
+-- in user mode: an instruction, or the end of the slice after quantum of them
+unfoldable pub user_turn : (quantum : ℕ) → Unix → (pid count : ℕ) → Option Process → Unix
+user_turn quantum u pid count (Some p) = if nat_lt count quantum then stepped u pid count p (step_of p) else trapped u pid
+user_turn quantum u pid count None = u
+
+-- a trap in which no process can run
+unfoldable pub idled : Unix → Unix
+idled u = record u { steps = u.steps + 1; traps = u.traps + 1 }
+
+abbrev pub piece_or_idle : Unix → Option ℕ → Unix
+piece_or_idle u (Some pid) = piece_if_live u pid (u.processes pid)
+  where
+    piece_if_live : Unix → ℕ → Option Process → Unix
+    piece_if_live u pid (Some p) = piece_of u pid p
+    piece_if_live u pid None = u
+piece_or_idle u None = idled u
+
+-- the turn of a settled state
+unfoldable pub turn_at : (quantum : ℕ) → Unix → Position → Unix
+turn_at quantum u (AtUser pid count) = user_turn quantum u pid count (u.processes pid)
+turn_at quantum u AtKernel = piece_or_idle u (chosen u)
+turn_at quantum u (AtPanic caller) = u
+
+-- Turn
+unfoldable pub turn : Shape → Unix → Unix
+turn shape u = turn_at shape.quantum (settled u) (settled u).position
+
+-- Ends: where no process is live the run is done; else it ends where the steps equal the budget
+unfoldable pub ending_of : Shape → Unix → Option Ending
+ending_of shape u =
+    if is_any_live u.processes 1 (u.next_pid - 1)
+    then (if u.steps == shape.budget then Some Budget else None)
+    else Some Done
+
+-- the closing trap counts as a trap and as no step, and changes nothing else
+unfoldable pub closed : Unix → Unix
+closed u = record u { traps = u.traps + 1; position = AtKernel }

@@ -1,0 +1,111 @@
+ghost use Rattle.std.specs.Prelude.{◌≡◌, ◌<◌};
+
+use std::marker::Model;
+
+/// The registers x1 to x31. x0 is always 0 and is not kept.
+#[derive(Clone, Copy, Debug, PartialEq, Eq)]
+pub struct Regs {
+    words: [u32; 31],
+}
+
+impl Model for Regs {
+    ghost use Rattle.std.specs.Prelude.{List, ℕ};
+
+    ghost Value = { List ℕ };
+
+    ghost view = { λ r. r.words };
+
+    ghost inverse = { λ ws. record { words = ws } };
+}
+
+impl Regs {
+    ghost use Rattle.std.specs.Prelude.{replicate};
+    ghost use Rattle.ow_base.specs.UserStep.{register, with_register};
+
+    /// All registers 0.
+    pub const fn new() -> Regs
+        ensures { result ≡ replicate 31 0 }
+    {
+        Regs { words: [0; 31] }
+    }
+
+    /// The word in a register, below 32. x0 gives 0.
+    pub fn get(&self, r: u32) -> u32
+        requires { r < 32 }
+        ensures { result ≡ register self.now r }
+    {
+        if r == 0 {
+            0
+        } else {
+            self.words[r as usize - 1]
+        }
+    }
+
+    /// Puts a word in a register, below 32. x0 takes nothing.
+    pub fn set(&mut self, r: u32, value: u32)
+        requires { r < 32 }
+        ensures { self.new ≡ with_register self.old r value }
+    {
+        if r != 0 {
+            self.words[r as usize - 1] = value;
+        }
+    }
+}
+
+/// What the processor keeps of a program: where it stands and its registers.
+#[derive(Clone, Copy, Debug, PartialEq, Eq)]
+pub struct Bank {
+    pub pc: u32,
+    pub regs: Regs,
+}
+
+/// An exception of the processor: its cause and the value that comes with it.
+#[derive(Clone, Copy, Debug, PartialEq, Eq)]
+pub struct Fault {
+    pub cause: u32,
+    pub value: u32,
+}
+
+/// How many bytes a load or a store moves: 1, 2 or 4.
+#[derive(Clone, Copy, Debug, PartialEq, Eq)]
+pub enum Width {
+    Byte,
+    Half,
+    Word,
+}
+
+/// What a program may do with a page: read and execute it, or read and write it.
+#[derive(Clone, Copy, Debug, PartialEq, Eq)]
+pub enum Rights {
+    Code,
+    Values,
+}
+
+/// From where the processor came into the kernel.
+#[derive(Clone, Copy, Debug, PartialEq, Eq)]
+pub enum Came {
+    Kernel,
+    User,
+    Call,
+    Closing,
+}
+
+/// One of the two areas of memory that a kernel can have.
+#[derive(Clone, Copy, Debug, PartialEq, Eq)]
+pub enum AreaId {
+    A,
+    B,
+}
+
+/// A kernel store was refused: the kernel has panicked.
+#[derive(Clone, Copy, Debug, PartialEq, Eq)]
+pub struct Panicked;
+
+/// The size of a machine: user frames, data sectors of the disk, instructions in a slice, steps in a run.
+#[derive(Clone, Copy, Debug, PartialEq, Eq)]
+pub struct Shape {
+    pub user_frames: u32,
+    pub sectors: u32,
+    pub quantum: u32,
+    pub budget: u32,
+}

@@ -1,0 +1,127 @@
+use crate::machine::{AreaId, Shape};
+use crate::sequence::List;
+use arrayvec::ArrayVec;
+
+/// A typed byte, and the number of the trap at which it arrives.
+#[derive(Clone, Copy, Debug, PartialEq, Eq)]
+pub struct KeyByte {
+    pub trap: u32,
+    pub byte: u8,
+}
+
+/// A file of a world: its name and its bytes.
+#[derive(Debug, Drop)]
+pub struct FileText {
+    pub name: List<u8>,
+    pub bytes: List<u8>,
+}
+
+/// A program: its name, the words of its code and the words of its data.
+#[derive(Debug, Drop)]
+pub struct Program {
+    pub name: List<u8>,
+    pub code: List<u32>,
+    pub values: List<u32>,
+}
+
+/// A process that is started: the place of its program in the load, and its terminal (0 or 1).
+#[derive(Clone, Copy, Debug, PartialEq, Eq)]
+pub struct Start {
+    pub program: u32,
+    pub tty: u32,
+}
+
+/// What a machine is loaded with before it runs.
+#[derive(Debug, Drop)]
+pub struct Load {
+    pub shape: Shape,
+    pub files: List<FileText>,
+    pub programs: List<Program>,
+    pub starts: List<Start>,
+}
+
+/// What a damage line names.
+#[derive(Clone, Copy, Debug, PartialEq, Eq)]
+pub enum DamageKind {
+    Head,
+    Proc,
+    Sig,
+    Open,
+    File,
+    Cache,
+    Term,
+    Row,
+    Owner,
+    Table,
+    Cached,
+    Page,
+}
+
+/// A word that a panic damages, and the bits that change in it. For `Page` the index is the slot.
+#[derive(Clone, Copy, Debug, PartialEq, Eq)]
+pub struct Damage {
+    pub kind: DamageKind,
+    pub index: u32,
+    pub page: u32,
+    pub word: u32,
+    pub mask: u32,
+}
+
+impl Default for Damage {
+    fn default() -> Self {
+        Damage {
+            kind: DamageKind::Head,
+            index: 0,
+            page: 0,
+            word: 0,
+            mask: 0,
+        }
+    }
+}
+
+/// A panic of a world: the trap and the store that is refused, with what it damages and which of
+/// the resurrection's stores are refused after it.
+#[derive(Debug, Drop)]
+pub struct PanicLine {
+    pub trap: u32,
+    pub store: u32,
+    pub damages: List<Damage>,
+    pub agains: List<u32>,
+}
+
+/// A panic that a machine is armed with: at most 16 damages and 4 refusals of the resurrection.
+#[derive(Debug, Drop)]
+pub struct Point {
+    pub trap: u32,
+    pub store: u32,
+    pub damages: ArrayVec<Damage, 16>,
+    pub agains: ArrayVec<u32, 4>,
+}
+
+/// A panic that happened: its trap, the number of stores made in it, and the listed store.
+#[derive(Clone, Copy, Debug, PartialEq, Eq)]
+pub struct PanicRecord {
+    pub trap: u32,
+    pub store: u32,
+    pub listed: u32,
+    pub at_leave: bool,
+    pub pid: u32,
+    pub area: AreaId,
+}
+
+/// A world: the load, the bytes that are typed on the two terminals, and the panics.
+#[derive(Debug, Drop)]
+pub struct World {
+    pub load: Load,
+    pub typed0: List<KeyByte>,
+    pub typed1: List<KeyByte>,
+    pub panics: List<PanicLine>,
+}
+
+/// How a run ends.
+#[derive(Clone, Copy, Debug, PartialEq, Eq)]
+pub enum Ending {
+    Done,
+    Budget,
+    Restarted,
+}
