@@ -32,12 +32,13 @@ user_turn quantum u pid count None = u
 unfoldable pub idled : Unix → Unix
 idled u = record u { steps = u.steps + 1; traps = u.traps + 1 }
 
+-- the piece of a process that is chosen in the kernel, or an idle trap where there is none
+abbrev pub piece_if_live : Unix → (pid : ℕ) → Option Process → Unix
+piece_if_live u pid (Some p) = piece_of u pid p
+piece_if_live u pid None = u
+
 abbrev pub piece_or_idle : Unix → Option ℕ → Unix
 piece_or_idle u (Some pid) = piece_if_live u pid (u.processes pid)
-  where
-    piece_if_live : Unix → ℕ → Option Process → Unix
-    piece_if_live u pid (Some p) = piece_of u pid p
-    piece_if_live u pid None = u
 piece_or_idle u None = idled u
 
 -- the turn of a settled state
