@@ -4,11 +4,13 @@
 mod machine;
 mod outside;
 mod sequence;
+mod transfer;
 mod worlds;
 
 pub use machine::{AreaId, Bank, Came, Fault, Panicked, Regs, Rights, Shape, Width};
 pub use outside::{Failed, Sink, Source};
 pub use sequence::List;
+pub use transfer::{put_all, put_escaped, put_number};
 pub use worlds::{
     Damage, DamageKind, Ending, FileText, KeyByte, Load, PanicLine, PanicRecord, Point, Program,
     Start, World,
