@@ -10,7 +10,7 @@ mod worlds;
 pub use machine::{AreaId, Bank, Came, Fault, Panicked, Regs, Rights, Shape, Width};
 pub use outside::{Failed, Sink, Source};
 pub use sequence::List;
-pub use transfer::{put_all, put_escaped, put_number};
+pub use transfer::{put_all, put_escaped, put_number, read_all, ReadAllFault};
 pub use worlds::{
     Damage, DamageKind, Ending, FileText, KeyByte, Load, PanicLine, PanicRecord, Point, Program,
     Start, World,

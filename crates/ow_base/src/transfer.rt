@@ -1,10 +1,12 @@
-ghost use Rattle.std.specs.Prelude.{◌≡◌, ◌<◌, ◌≤◌, decimal, OnErr};
+ghost use Rattle.std.specs.Prelude.{◌≡◌, ◌<◌, ◌≤◌, length, vec_len, decimal, IfOk, OnErr, IsErr, IsErrOf};
 ghost use Rattle.ow_base.specs.Lines.{escaped, escaped_byte, hex_digit};
-ghost use Rattle.ow_base.specs.Outside.{Rose, Writes};
+ghost use Rattle.ow_base.specs.Outside.{Rose, OnTold, TakesAll, TakesOver, Writes};
 
-use crate::outside::{Failed, Sink};
+use crate::outside::{Failed, Sink, Source};
 use arrayvec::ArrayVec;
 use itoa::Buffer;
+use std::alloc::{AllocError, Global};
+use thiserror::Error;
 
 /// Writes all the bytes, in as many calls of the sink as it takes.
 ///
@@ -53,6 +55,53 @@ pub fn put_escaped<K: Sink>(sink: &mut K, bytes: &[u8]) -> Result<(), Failed>
         }
     }
     Ok(())
+}
+
+/// Why not all that a source has left was read.
+#[derive(Debug, Drop, Error)]
+pub enum ReadAllFault {
+    #[error("read fault")]
+    ReadFault,
+    #[error("too large")]
+    TooLarge,
+    #[error("out of memory")]
+    Memory(AllocError),
+}
+
+/// Reads to the end of a source, at most `limit` bytes.
+///
+/// `TooLarge` comes exactly where more than `limit` bytes came, and then one more than `limit` is taken.
+/// `ReadFault` comes only where the source failed.
+pub fn read_all<S: Source>(
+    alloc: Global,
+    source: &mut S,
+    limit: usize,
+) -> Result<Vec<u8>, ReadAllFault>
+    ensures all { IfOk result (λ bytes. TakesAll (S.left source.old) (S.left source.new) bytes.items) }
+    ensures small { IfOk result (λ bytes. vec_len bytes ≤ limit) }
+    ensures too_large { IsErrOf result ReadAllFault.TooLarge →
+        TakesOver limit (S.left source.old) (S.left source.new) }
+    ensures read_fault { IsErrOf result ReadAllFault.ReadFault →
+        Rose (S.faults source.old) (S.faults source.new) }
+    ensures within { OnTold (S.left source.old) (λ bytes.
+        length bytes ≤ limit → IsErrOf result ReadAllFault.TooLarge → ⊥) }
+    ensures beyond { OnTold (S.left source.old) (λ bytes. limit < length bytes → IsErr result) }
+    ensures never_falls { S.faults source.old ≤ S.faults source.new }
+{
+    let mut all = Vec::new(alloc);
+    let mut buffer = [0; 1024];
+    while all.len() <= limit {
+        let most = (limit - all.len()).min(buffer.len() - 1) + 1;
+        let count = match source.read(&mut buffer[..most]) {
+            Ok(count) => count,
+            Err(Failed) => return Err(ReadAllFault::ReadFault),
+        };
+        if count == 0 {
+            return Ok(all);
+        }
+        all.extend_from_slice(&buffer[..count]).map_err(ReadAllFault::Memory)?;
+    }
+    Err(ReadAllFault::TooLarge)
 }
 
 // A byte in escape text.
