@@ -1,12 +1,14 @@
 //! What every crate of Otherworld speaks of: plain data, the world outside, and the definitions in `specs/`.
 #![tactic(auto)]
 
+mod fakes;
 mod machine;
 mod outside;
 mod sequence;
 mod transfer;
 mod worlds;
 
+pub use fakes::{FixedSink, FixedSource, MemSink, MemSource};
 pub use machine::{AreaId, Bank, Came, Fault, Panicked, Regs, Rights, Shape, Width};
 pub use outside::{Failed, Sink, Source};
 pub use sequence::List;
