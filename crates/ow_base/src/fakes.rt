@@ -224,7 +224,7 @@ impl FixedSink {
 
     // Counts one more fault.
     fn count_fault(&mut self)
-        ensures risen { self.new ≡ record self.old { faults = risen self.old.faults } }
+        ensures counts { self.new ≡ record self.old { faults = risen self.old.faults } }
         ensures never_falls { self.old.faults ≤ self.new.faults }
     {
         self.faults = self.faults.saturating_add(1);

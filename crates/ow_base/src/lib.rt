@@ -5,6 +5,7 @@ mod fakes;
 mod machine;
 mod outside;
 mod sequence;
+mod standard;
 mod transfer;
 mod worlds;
 
@@ -12,6 +13,7 @@ pub use fakes::{FixedSink, FixedSource, MemSink, MemSource};
 pub use machine::{AreaId, Bank, Came, Fault, Panicked, Regs, Rights, Shape, Width};
 pub use outside::{Failed, Sink, Source};
 pub use sequence::List;
+pub use standard::{StdSink, StdSource};
 pub use transfer::{put_all, put_escaped, put_number, read_all, ReadAllFault};
 pub use worlds::{
     Damage, DamageKind, Ending, FileText, KeyByte, Load, PanicLine, PanicRecord, Point, Program,
