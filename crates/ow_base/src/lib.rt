@@ -19,3 +19,6 @@ pub use worlds::{
     Damage, DamageKind, Ending, FileText, KeyByte, Load, PanicLine, PanicRecord, Point, Program,
     Start, World,
 };
+
+#[cfg(test)]
+mod tests;
