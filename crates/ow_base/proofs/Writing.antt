@@ -1,9 +1,8 @@
 -- How writes are put together: pieces written one behind the other, and fronts of them.
-use Rattle.std.proofs.Common.{◌≡◌, ℕ, ◌+◌, ◌-◌, ◌<◌, ◌≤◌, zero, suc, List, [], ◌∷◌, ◌++◌, length, take, drop, get_or, Option, Some, None, Result, Ok, Err, refl, sym, ap, ◌∙◌, arith, append_assoc, append-nil, length-append, length-drop, add-one}
+use Rattle.std.proofs.Common.{◌≡◌, ℕ, ◌+◌, ◌-◌, ◌<◌, List, [], ◌∷◌, ◌++◌, length, take, drop, get_or, Option, Some, None, Result, Ok, Err, refl, sym, ap, ◌∙◌, arith, append_assoc, append-nil, length-append, length-drop, add-one}
 use Rattle.std.specs.Prelude.{flat_map}
 use Rattle.std.proofs.Math.Seq.{take-append-add, take-add, take-length, drop-cons}
 use Rattle.std.proofs.lemmas.List.{take-append-le, take-append-drop, take_more}
-use Rattle.std.proofs.lemmas.List.Concat.{flat_map-cons}
 use Rattle.std.proofs.lemmas.Grind.{flat_map-append}
 use Rattle.ow_base.specs.Outside.{appended, IsFront, Writes}
 
@@ -31,9 +30,11 @@ cut a b u v (k, short, e) = (k, omega (arith, length-append {A = ℕ}), rw (take
 
 -- behind a first piece that is written, a front of the next is a front of the whole
 pub shifted : (a b : List ℕ) (u v w : Option (List ℕ)) → v ≡ appended u a → IsFront b v w → IsFront (a ++ b) u w
-shifted a b u v w e (k, short, f) =
-    (length a + k, omega (arith, length-append {A = ℕ}),
-    rw (take-append-add a b k) (f ∙ ap (λ (x : Option (List ℕ)). appended x (take k b)) e ∙ appended-appended u a (take k b)))
+shifted a b u v w e (k, short, f) = (
+  length a + k,
+  omega (arith, length-append {A = ℕ}),
+  rw (take-append-add a b k) (f ∙ ap (λ (x : Option (List ℕ)). appended x (take k b)) e ∙ appended-appended u a (take k b)),
+)
 
 -- behind a first piece that is written, a call that writes the next has written the whole, or a front of it
 pub then_writes : {T E : Type 0} (r : Result T E) (a b : List ℕ) (u v w : Option (List ℕ)) → v ≡ appended u a → Writes r b v w → Writes r (a ++ b) u w

@@ -1,5 +1,5 @@
 -- Sources and sinks in memory: what contracts see of them, and what one call makes of them.
-use Rattle.std.specs.Prelude.{◌≡◌, ◌≢◌, ℕ, ◌+◌, ◌-◌, ◌^◌, ◌⊎◌, Bool, nat_lt, ◌==◌, ◌&&◌, if◌then◌else◌, min, IsTrue, List, ◌++◌, length, take, drop}
+use Rattle.std.specs.Prelude.{◌≡◌, ◌≢◌, ℕ, ◌+◌, ◌-◌, ◌^◌, Bool, nat_lt, ◌==◌, ◌&&◌, if◌then◌else◌, min, List, ◌++◌, length, drop}
 use Rattle.std.specs.List.{list_any}
 
 -- a source: the bytes that are left, the numbers of the calls that fail, how many calls were counted, how
@@ -69,3 +69,15 @@ after_write w bytes = record w { written = w.written ++ bytes; calls = counted w
 -- a sink after a call that failed
 abbrev pub after_failed_write : Writing → Writing
 after_failed_write w = record w { calls = counted w.calls; faults = risen w.faults }
+
+-- how many bytes of a piece a sink takes that fails only where its room is full
+abbrev pub fill_count : Filling → (size : ℕ) → ℕ
+fill_count f size = min size (f.room - length f.written)
+
+-- that sink after a call that took these bytes
+abbrev pub after_fill : Filling → (bytes : List ℕ) → Filling
+after_fill f bytes = record f { written = f.written ++ bytes }
+
+-- that sink after a call that failed
+abbrev pub after_failed_fill : Filling → Filling
+after_failed_fill f = record f { faults = risen f.faults }

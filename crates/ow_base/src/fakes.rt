@@ -1,6 +1,8 @@
 ghost use Rattle.std.specs.Prelude.{◌≡◌, ◌≢◌, ℕ, List, ◌-◌, ◌≤◌, ◌↔◌, ◌⊎◌, min, [], ◌++◌, length, take, drop, IsTrue, IsErr, IfOk, OnOk, OnErr, Some, vec_len};
-ghost use Rattle.ow_base.specs.Outside.{Rose, appended, IsFront, OnTold, Takes};
-ghost use Rattle.ow_base.specs.Fakes.{is_failing, counted, risen, paced, IsStuck, read_count, after_read, after_failed_read, write_count, after_write, after_failed_write};
+ghost use Rattle.ow_base.specs.Outside.{Rose, IsFront, Takes};
+ghost use Rattle.ow_base.specs.Fakes.{is_failing, paced, IsStuck, read_count, after_read, after_failed_read};
+ghost use Rattle.ow_base.specs.Fakes.{write_count, after_write, after_failed_write};
+ghost use Rattle.ow_base.specs.Fakes.{fill_count, after_fill, after_failed_fill};
 
 use crate::outside::{Failed, Sink, Source};
 use std::marker::Model;
@@ -69,7 +71,7 @@ impl Source for FixedSource {
         ensures left { IfOk result (λ n. self.new ≡ drop n self.old) }
         ensures count { IfOk result (λ n. n ≤ length buf.old) }
         ensures taken { IfOk result (λ n. Takes (Some self.old) (Some self.new) (take n buf.new)) }
-        ensures end { IfOk result (λ n. n ≡ 0 → length buf.old ≢ 0 → OnTold (Some self.old) (λ bytes. bytes ≡ [])) }
+        ensures end { IfOk result (λ n. n ≡ 0 → length buf.old ≢ 0 → self.old ≡ []) }
         ensures failed { OnErr result (Rose 0 0) }
         ensures never_falls { 0 ≤ 0 }
     {
@@ -95,14 +97,26 @@ impl Model for MemSource {
 
     ghost Value = { Reading };
 
-    ghost view = { λ s. record { left = s.bytes; fails = s.fails.items; calls = s.calls; faults = s.faults; pace = s.pace } };
+    ghost view = { λ s. record {
+      left = s.bytes;
+      fails = s.fails.items;
+      calls = s.calls;
+      faults = s.faults;
+      pace = s.pace;
+    } };
 }
 
 impl MemSource {
     /// A source of these bytes that fails exactly at the calls whose numbers, from 1, are listed. Calls
     /// past number 2^32 - 1 are not counted.
     pub fn new(bytes: Vec<u8>, fails: Vec<u32>) -> MemSource
-        ensures { result ≡ record { left = bytes.items; fails = fails.items; calls = 0; faults = 0; pace = 0 } }
+        ensures { result ≡ record {
+          left = bytes.items;
+          fails = fails.items;
+          calls = 0;
+          faults = 0;
+          pace = 0;
+        } }
     {
         MemSource {
             bytes: FixedSource::new(bytes),
@@ -151,8 +165,9 @@ impl Source for MemSource {
         ensures kept { OnErr result (buf.new ≡ buf.old) }
         ensures after_failed { OnErr result (self.new ≡ after_failed_read self.old) }
         ensures count { IfOk result (λ n. n ≤ length buf.old) }
-        ensures taken { IfOk result (λ n. Takes (Some self.old.left) (Some self.new.left) (take n buf.new)) }
-        ensures end { IfOk result (λ n. n ≡ 0 → length buf.old ≢ 0 → OnTold (Some self.old.left) (λ bytes. bytes ≡ [])) }
+        ensures taken { IfOk result (λ n.
+            Takes (Some self.old.left) (Some self.new.left) (take n buf.new)) }
+        ensures end { IfOk result (λ n. n ≡ 0 → length buf.old ≢ 0 → self.old.left ≡ []) }
         ensures failed { OnErr result (Rose self.old.faults self.new.faults) }
         ensures never_falls { self.old.faults ≤ self.new.faults }
     {
@@ -183,7 +198,11 @@ impl Model for FixedSink {
 
     ghost Value = { Filling };
 
-    ghost view = { λ s. record { written = take s.used s.room.items; room = vec_len s.room; faults = s.faults } };
+    ghost view = { λ s. record {
+      written = take s.used s.room.items;
+      room = vec_len s.room;
+      faults = s.faults;
+    } };
 
     ghost invariant = { λ s. s.used ≤ vec_len s.room };
 }
@@ -224,7 +243,7 @@ impl FixedSink {
 
     // Counts one more fault.
     fn count_fault(&mut self)
-        ensures counts { self.new ≡ record self.old { faults = risen self.old.faults } }
+        ensures counts { self.new ≡ after_failed_fill self.old }
         ensures never_falls { self.old.faults ≤ self.new.faults }
     {
         self.faults = self.faults.saturating_add(1);
@@ -232,8 +251,8 @@ impl FixedSink {
 
     // Takes as many bytes of a piece as there is room for.
     fn put(&mut self, bytes: &[u8]) -> usize
-        ensures count { result ≡ min (length bytes.now) (self.old.room - length self.old.written) }
-        ensures after { self.new ≡ record self.old { written = self.old.written ++ take result bytes.now } }
+        ensures count { result ≡ fill_count self.old (length bytes.now) }
+        ensures after { self.new ≡ after_fill self.old (take result bytes.now) }
     {
         let count = bytes.len().min(self.room.len() - self.used);
         let end = self.used + count;
@@ -252,13 +271,14 @@ impl Sink for FixedSink {
     /// the piece is not empty; it counts a fault, and then nothing is written.
     fn write(&mut self, bytes: &[u8]) -> Result<usize, Failed>
         ensures fails { IsErr result ↔ IsStuck bytes.now self.old.written self.old.room }
-        ensures writes { IfOk result (λ n. n ≡ min (length bytes.now) (self.old.room - length self.old.written)) }
-        ensures after { IfOk result (λ n. self.new ≡ record self.old { written = self.old.written ++ take n bytes.now }) }
-        ensures after_failed { OnErr result (self.new ≡ record self.old { faults = risen self.old.faults }) }
+        ensures writes { IfOk result (λ n. n ≡ fill_count self.old (length bytes.now)) }
+        ensures after { IfOk result (λ n. self.new ≡ after_fill self.old (take n bytes.now)) }
+        ensures after_failed { OnErr result (self.new ≡ after_failed_fill self.old) }
         ensures count { IfOk result (λ n. n ≤ length bytes.now) }
         ensures some { IfOk result (λ n. length bytes.now ≢ 0 → n ≢ 0) }
-        ensures written { IfOk result (λ n. Some self.new.written ≡ appended (Some self.old.written) (take n bytes.now)) }
-        ensures front { OnErr result (IsFront bytes.now (Some self.old.written) (Some self.new.written)) }
+        ensures written { IfOk result (λ n. self.new.written ≡ self.old.written ++ take n bytes.now) }
+        ensures front { OnErr result
+            (IsFront bytes.now (Some self.old.written) (Some self.new.written)) }
         ensures failed { OnErr result (Rose self.old.faults self.new.faults) }
         ensures never_falls { self.old.faults ≤ self.new.faults }
     {
@@ -288,7 +308,12 @@ impl Model for MemSink {
     ghost Value = { Writing };
 
     ghost view = { λ s. record {
-        written = s.sink.written; room = s.sink.room; fails = s.fails.items; calls = s.calls; faults = s.sink.faults; pace = s.pace
+      written = s.sink.written;
+      room = s.sink.room;
+      fails = s.fails.items;
+      calls = s.calls;
+      faults = s.sink.faults;
+      pace = s.pace;
     } };
 }
 
@@ -298,7 +323,12 @@ impl MemSink {
     /// number 2^32 - 1 are not counted.
     pub fn new(room: Vec<u8>, fails: Vec<u32>) -> MemSink
         ensures { result ≡ record {
-            written = []; room = vec_len room; fails = fails.items; calls = 0; faults = 0; pace = 0
+          written = [];
+          room = vec_len room;
+          fails = fails.items;
+          calls = 0;
+          faults = 0;
+          pace = 0;
         } }
     {
         MemSink {
@@ -342,14 +372,16 @@ impl Sink for MemSink {
     /// then nothing is written.
     fn write(&mut self, bytes: &[u8]) -> Result<usize, Failed>
         ensures fails { IsErr result ↔
-            (IsTrue (is_failing self.old.fails self.old.calls) ⊎ IsStuck bytes.now self.old.written self.old.room) }
+            (IsTrue (is_failing self.old.fails self.old.calls)
+            ⊎ IsStuck bytes.now self.old.written self.old.room) }
         ensures writes { IfOk result (λ n. n ≡ write_count self.old (length bytes.now)) }
         ensures after { IfOk result (λ n. self.new ≡ after_write self.old (take n bytes.now)) }
         ensures after_failed { OnErr result (self.new ≡ after_failed_write self.old) }
         ensures count { IfOk result (λ n. n ≤ length bytes.now) }
         ensures some { IfOk result (λ n. length bytes.now ≢ 0 → n ≢ 0) }
-        ensures written { IfOk result (λ n. Some self.new.written ≡ appended (Some self.old.written) (take n bytes.now)) }
-        ensures front { OnErr result (IsFront bytes.now (Some self.old.written) (Some self.new.written)) }
+        ensures written { IfOk result (λ n. self.new.written ≡ self.old.written ++ take n bytes.now) }
+        ensures front { OnErr result
+            (IsFront bytes.now (Some self.old.written) (Some self.new.written)) }
         ensures failed { OnErr result (Rose self.old.faults self.new.faults) }
         ensures never_falls { self.old.faults ≤ self.new.faults }
     {
@@ -378,9 +410,5 @@ fn is_listed(fails: &[u32], calls: u32) -> bool
 fn at_pace(pace: usize, count: usize) -> usize
     ensures { result ≡ paced pace count }
 {
-    if pace == 0 {
-        count
-    } else {
-        pace.min(count)
-    }
+    if pace == 0 { count } else { pace.min(count) }
 }

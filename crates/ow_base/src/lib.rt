@@ -14,7 +14,7 @@ pub use machine::{AreaId, Bank, Came, Fault, Panicked, Regs, Rights, Shape, Widt
 pub use outside::{Failed, Sink, Source};
 pub use sequence::List;
 pub use standard::{StdSink, StdSource};
-pub use transfer::{put_all, put_escaped, put_number, read_all, ReadAllFault};
+pub use transfer::{ReadAllFault, put_all, put_escaped, put_number, read_all};
 pub use worlds::{
     Damage, DamageKind, Ending, FileText, KeyByte, Load, PanicLine, PanicRecord, Point, Program,
     Start, World,

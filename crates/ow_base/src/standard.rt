@@ -36,12 +36,14 @@ impl<R: Read> Source for StdSource<R> {
 
     /// Reads once. `Failed` comes where the reader answers an error, and counts a fault.
     fn read(&mut self, buf: &mut [u8]) -> Result<usize, Failed>
-        ensures passes { ReadConsumes (R.remaining self.old.reader) (R.remaining self.new.reader) result buf.new }
+        ensures passes { ReadConsumes (R.remaining self.old.reader) (R.remaining self.new.reader)
+            result buf.new }
         ensures counts { OnErr result (self.new.faults ≡ risen self.old.faults) }
         ensures stays { OnOk result (self.new.faults ≡ self.old.faults) }
         ensures count { IfOk result (λ n. n ≤ length buf.old) }
         ensures taken { IfOk result (λ n. Takes None None (take n buf.new)) }
-        ensures end { IfOk result (λ n. n ≡ 0 → length buf.old ≢ 0 → OnTold None (λ bytes. bytes ≡ [])) }
+        ensures end { IfOk result (λ n.
+            n ≡ 0 → length buf.old ≢ 0 → OnTold None (λ bytes. bytes ≡ [])) }
         ensures failed { OnErr result (Rose self.old.faults self.new.faults) }
         ensures never_falls { self.old.faults ≤ self.new.faults }
     {
@@ -86,7 +88,8 @@ impl<W: Write> Sink for StdSink<W> {
     /// Writes once. `Failed` comes where the writer answers an error, and where it takes nothing of a piece
     /// that is not empty, and counts a fault.
     fn write(&mut self, bytes: &[u8]) -> Result<usize, Failed>
-        ensures passes { WriteAppends (W.contents self.old.writer) (W.contents self.new.writer) result bytes.now }
+        ensures passes { WriteAppends (W.contents self.old.writer) (W.contents self.new.writer)
+            result bytes.now }
         ensures counts { OnErr result (self.new.faults ≡ risen self.old.faults) }
         ensures stays { OnOk result (self.new.faults ≡ self.old.faults) }
         ensures count { IfOk result (λ n. n ≤ length bytes.now) }

@@ -77,12 +77,7 @@ fn a_sink_that_fails(rt: HostRuntime) -> Result<(), Fail> {
 }
 
 // What `read_all` answers of `abcd`, with the text of a fault in place of the bytes.
-fn read(
-    alloc: Global,
-    limit: usize,
-    fails: &[u32],
-    pace: usize,
-) -> Result<Vec<u8>, AllocError> {
+fn read(alloc: Global, limit: usize, fails: &[u32], pace: usize) -> Result<Vec<u8>, AllocError> {
     let bytes = Vec::from_slice(alloc, b"abcd")?;
     let mut source = MemSource::new(bytes, Vec::from_slice(alloc, fails)?).with_pace(pace);
     match read_all(alloc, &mut source, limit) {
@@ -136,7 +131,10 @@ impl Write for Broken {
 #[test]
 fn readers_and_writers(rt: HostRuntime) -> Result<(), Fail> {
     let mut source = StdSource::new(Cursor::new("abc"));
-    assert_eq!(rt; read_all(rt.alloc(), &mut source, 3)?.as_slice(), b"abc".as_slice());
+    assert_eq!(rt;
+        read_all(rt.alloc(), &mut source, 3)?.as_slice(),
+        b"abc".as_slice()
+    );
     let mut room = [0; 4];
     let mut sink = StdSink::new(Cursor::new(&mut room[..]));
     put_all(&mut sink, b"abc")?;

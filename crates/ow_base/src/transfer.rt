@@ -91,6 +91,7 @@ pub fn read_all<S: Source>(
     let mut all = Vec::new(alloc);
     let mut buffer = [0; 1024];
     while all.len() <= limit {
+        // A byte beyond the limit shows that there are too many.
         let most = (limit - all.len()).min(buffer.len() - 1) + 1;
         let count = match source.read(&mut buffer[..most]) {
             Ok(count) => count,
@@ -99,7 +100,8 @@ pub fn read_all<S: Source>(
         if count == 0 {
             return Ok(all);
         }
-        all.extend_from_slice(&buffer[..count]).map_err(ReadAllFault::Memory)?;
+        all.extend_from_slice(&buffer[..count])
+            .map_err(ReadAllFault::Memory)?;
     }
     Err(ReadAllFault::TooLarge)
 }

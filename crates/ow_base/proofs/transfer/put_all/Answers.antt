@@ -8,7 +8,7 @@ loop-done-preserved g c = record {
   within = let e = whole_rest c.loop-done.done c.args.bytes.now in grind arith;
   put = more_of_rest c.loop-done.done c.in-Ok.count c.args.bytes.now _ _ _ c.loop-done.invariant.put
       (rw (whole_rest c.loop-done.done c.args.bytes.now) at c.in-Ok.ensures.written);
-  steady = omega (arith, c.in-Ok.ensures.never_falls)
+  steady = omega (arith, c.in-Ok.ensures.never_falls);
 }
 
 pub returns-in-Err-clause-writes : goal.returns-in-Err-clause-writes

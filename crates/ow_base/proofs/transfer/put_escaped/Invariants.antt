@@ -7,5 +7,5 @@ use Rattle.ow_base.proofs.transfer.put_escaped.Given as goal
 abbrev pub invariant-loop-byte : goal.invariant-loop-byte
 invariant-loop-byte g l = record {
   put : g.K.Sink.written l.sink ≡ appended (g.K.Sink.written l.initial.sink) (escaped (take l.byte-index l.bytes));
-  steady : g.K.Sink.faults l.initial.sink ≤ g.K.Sink.faults l.sink
+  steady : g.K.Sink.faults l.initial.sink ≤ g.K.Sink.faults l.sink;
 }

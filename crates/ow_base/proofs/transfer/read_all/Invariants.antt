@@ -7,7 +7,7 @@ abbrev pub invariant-loop-buffer : goal.invariant-loop-buffer
 invariant-loop-buffer g l = record {
   taken : Takes (g.S.Source.left l.initial.source) (g.S.Source.left l.source) l.all.items;
   most : vec_len l.all ≤ l.limit + 1;
-  steady : g.S.Source.faults l.initial.source ≤ g.S.Source.faults l.source
+  steady : g.S.Source.faults l.initial.source ≤ g.S.Source.faults l.source;
 }
 
 abbrev pub decreases-loop-buffer : goal.decreases-loop-buffer
