@@ -41,6 +41,14 @@ pub then_writes : {T E : Type 0} (r : Result T E) (a b : List ℕ) (u v w : Opti
 then_writes (Ok x) a b u v w e f = both a b u v w e f
 then_writes (Err x) a b u v w e f = shifted a b u v w e f
 
+-- behind a part of a text that is written, a front of the part behind it is a front of the text
+pub front_within : (text a b c : List ℕ) (u v w : Option (List ℕ)) → text ≡ a ++ (b ++ c) → v ≡ appended u a → IsFront b v w → IsFront text u w
+front_within text a b c u v w parts e front = rw parts (shifted a (b ++ c) u v w e (cut b c v w front))
+
+-- behind a part of a text that is written, the part behind it makes a longer one
+pub longer_within : (text a b c : List ℕ) (u v w : Option (List ℕ)) → text ≡ a ++ (b ++ c) → v ≡ appended u a → w ≡ appended v b → (text ≡ (a ++ b) ++ c) × (w ≡ appended u (a ++ b))
+longer_within text a b c u v w parts e f = (parts ∙ sym (append_assoc a b c), both a b u v w e f)
+
 -- all of what a slice from a place on has
 pub whole_rest : (done : ℕ) (text : List ℕ) → take (length text - done) (drop done text) ≡ drop done text
 whole_rest done text = ap (λ (n : ℕ). take n (drop done text)) (sym (length-drop done text)) ∙ take-length (drop done text)
