@@ -12,3 +12,4 @@ pub mod Lines
 pub mod World
 pub mod Report
 pub mod Outside
+pub mod Fakes

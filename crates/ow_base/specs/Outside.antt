@@ -1,5 +1,5 @@
 -- The world outside: bytes that come in, bytes that go out, and faults.
-use Rattle.std.specs.Prelude.{◌≡◌, ℕ, ◌-◌, ◌^◌, ◌<◌, ◌≤◌, ◌⊎◌, List, ◌++◌, length, take, Option, Some, None, Result, Ok, Err}
+use Rattle.std.specs.Prelude.{◌≡◌, ℕ, ◌-◌, ◌^◌, ◌<◌, ◌≤◌, ◌+◌, ◌⊎◌, List, [], ◌++◌, length, take, drop, Option, Some, None, Result, Ok, Err}
 
 -- a count of faults rose; at its last value it counts as risen
 abbrev pub Rose : (old new : ℕ) → Type 0
@@ -28,3 +28,11 @@ Takes None new bytes = Unit {0}
 abbrev pub OnTold : Option (List ℕ) → (List ℕ → Type 0) → Type 0
 OnTold (Some bytes) P = P bytes
 OnTold None P = Unit {0}
+
+-- where the bytes that are left are told, these are all of them, and none is left
+abbrev pub TakesAll : (old new : Option (List ℕ)) → (bytes : List ℕ) → Type 0
+TakesAll old new bytes = OnTold old (λ left. (bytes ≡ left) × (new ≡ Some []))
+
+-- where the bytes that are left are told, they are more than the limit, and one more than the limit is taken
+abbrev pub TakesOver : (limit : ℕ) → (old new : Option (List ℕ)) → Type 0
+TakesOver limit old new = OnTold old (λ left. (limit < length left) × (new ≡ Some (drop (limit + 1) left)))

@@ -1,15 +1,24 @@
 //! What every crate of Otherworld speaks of: plain data, the world outside, and the definitions in `specs/`.
 #![tactic(auto)]
 
+mod fakes;
 mod machine;
 mod outside;
 mod sequence;
+mod standard;
+mod transfer;
 mod worlds;
 
+pub use fakes::{FixedSink, FixedSource, MemSink, MemSource};
 pub use machine::{AreaId, Bank, Came, Fault, Panicked, Regs, Rights, Shape, Width};
 pub use outside::{Failed, Sink, Source};
 pub use sequence::List;
+pub use standard::{StdSink, StdSource};
+pub use transfer::{ReadAllFault, put_all, put_escaped, put_number, read_all};
 pub use worlds::{
     Damage, DamageKind, Ending, FileText, KeyByte, Load, PanicLine, PanicRecord, Point, Program,
     Start, World,
 };
+
+#[cfg(test)]
+mod tests;

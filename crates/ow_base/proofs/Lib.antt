@@ -1,0 +1,2 @@
+-- How writes are put together, for every writer.
+pub mod Writing
