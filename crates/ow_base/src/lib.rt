@@ -2,11 +2,13 @@
 #![tactic(auto)]
 
 mod machine;
+mod numerals;
 mod outside;
 mod sequence;
 mod worlds;
 
 pub use machine::{AreaId, Bank, Came, Fault, Panicked, Regs, Rights, Shape, Width};
+pub use numerals::{decimal, hex8};
 pub use outside::{Failed, Sink, Source};
 pub use sequence::List;
 pub use worlds::{
