@@ -47,6 +47,7 @@ fn begins_with_zero(text: &[u8]) -> bool
 /// `None` comes where the text is no number below 2 to the 32, and where a 0 stands before other digits.
 pub fn decimal(text: &[u8]) -> Option<u32>
     ensures found { IfSome result (λ n. text.now ≡ decimal n) }
+    ensures small { IfSome result (λ n. n < 2 ^ 32) }
     ensures none { IfNone result ((n : ℕ) → n < 2 ^ 32 → text.now ≡ decimal n → ⊥) }
 {
     let Some(value) = value_of(text) else {
@@ -84,6 +85,7 @@ fn hex4(a: u8, b: u8, c: u8, d: u8) -> Option<u32>
 /// other texts.
 pub fn hex8(text: &[u8]) -> Option<u32>
     ensures found { IfSome result (λ w. text.now ≡ hex8 w) }
+    ensures small { IfSome result (λ w. w < 2 ^ 32) }
     ensures none { IfNone result ((w : ℕ) → w < 2 ^ 32 → text.now ≡ hex8 w → ⊥) }
 {
     let [a, b, c, d, e, f, g, h] = text else {

@@ -1,0 +1,4 @@
+pub mod WorldPieces
+pub mod WorldNumbers
+pub mod WorldWords
+pub mod WorldEnds
