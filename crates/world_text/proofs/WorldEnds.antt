@@ -1,9 +1,9 @@
 -- The last line.
-use Rattle.std.proofs.Common.{◌≡◌, ℕ, Bool, true, false, List, [], ◌∷◌, ◌++◌, codes, bytes_eq, ap, ◌∙◌, sym, refl}
+use Rattle.std.proofs.Common.{◌≡◌, ℕ, Bool, true, false, List, [], ◌∷◌, codes, bytes_eq, ap, ◌∙◌, sym, refl}
 use Rattle.ow_base.specs.Lines.{line}
 use Rattle.world_text.specs.WorldReading.{pieces, is_end}
 use Rattle.world_text.proofs.WorldPieces.{joined, joined-pieces}
-use Rattle.world_text.proofs.WorldNumbers.{same_bytes, bytes_eq_self}
+use Rattle.world_text.proofs.WorldNumbers.{same_bytes}
 
 same_tests : (a b : Bool) → (a ≡ true → b ≡ true) → (b ≡ true → a ≡ true) → a ≡ b
 same_tests true b h g = sym (h refl)

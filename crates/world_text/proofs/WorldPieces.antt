@@ -18,7 +18,7 @@ free-append s (x ∷ a) b ha hb = by_head (not (x == s)) (free s a) (free s (a +
     by_head true front whole h more = more h
     by_head false front whole h more = h
 
-other : (b s : ℕ) → (b ≡ s → ⊥) → (b == s) ≡ false
+pub other : (b s : ℕ) → (b ≡ s → ⊥) → (b == s) ≡ false
 other b s h = grind (arith, common_steps)
 
 free_parts : (hit rest : Bool) → (not hit && rest) ≡ true → (hit ≡ false) × (rest ≡ true)

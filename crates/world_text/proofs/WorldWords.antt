@@ -1,9 +1,8 @@
 -- Lines of words, one word or one line at a time.
-use Rattle.std.proofs.Common.{◌≡◌, ℕ, zero, suc, ◌+◌, ◌-◌, ◌<◌, ◌≤◌, nat_le, List, [], ◌∷◌, ◌++◌, length, Option, Some, None, option_map, arith, ap, ◌∙◌, sym, refl, append_assoc, append-nil, length-append, ◌==◌, Bool, true, false}
+use Rattle.std.proofs.Common.{◌≡◌, ℕ, zero, suc, ◌-◌, ◌<◌, ◌≤◌, nat_le, List, [], ◌∷◌, ◌++◌, length, Option, Some, None, arith, ap, ◌∙◌, sym, refl, append_assoc, append-nil, length-append, ◌==◌, Bool, true, false}
 use Rattle.std.proofs.lemmas.Bool.{eqb-true, eqb-false}
-use Rattle.std.proofs.lemmas.Grind.{common_steps}
 use Rattle.std.proofs.lemmas.Option.{cond_some}
-use Rattle.world_text.specs.WorldReading.{◌>>=◌, first_line, pieces, with_front, after, some_words, word_at, words_in, word_line_at, word_lines_by, word_lines_at}
+use Rattle.world_text.specs.WorldReading.{◌>>=◌, with_front, after, some_words, word_at, words_in, word_line_at, word_lines_at}
 
 -- what a step in between read
 pub bind_some : {A B : Type 0} (o : Option A) (f : A → Option B) (y : B) → (o >>= f) ≡ Some y → (x : A) × (o ≡ Some x) × (f x ≡ Some y)
@@ -59,7 +58,7 @@ words_more items rest word others some h room =
 pub no_front : (items : List ℕ) (o : Option (List ℕ)) (whole : Option (List ℕ)) → with_front items o ≡ whole → o ≡ None → None ≡ whole
 no_front items o whole h e = ap (with_front items) (sym e) ∙ h
 
-line_behind : (key : List ℕ) (line : List ℕ) (lines : List (List ℕ)) (found : List ℕ × List (List ℕ)) → word_line_at key (line ∷ lines) ≡ Some found → found.1 ≡ lines
+pub line_behind : (key : List ℕ) (line : List ℕ) (lines : List (List ℕ)) (found : List ℕ × List (List ℕ)) → word_line_at key (line ∷ lines) ≡ Some found → found.1 ≡ lines
 unfolding word_line_at
 line_behind key line [] found h = cc
 line_behind key line (m ∷ ms) found h =

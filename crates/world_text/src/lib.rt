@@ -3,7 +3,7 @@
 
 mod world_file;
 
-pub use world_file::{WorldFault, read_world};
+pub use world_file::{WorldFault, one_world, read_world};
 
 #[cfg(test)]
 mod tests;

@@ -1,4 +1,4 @@
-ghost use Rattle.std.specs.Prelude.{◌≡◌, ◌<◌, List, length, IfSome, IfOk, IfErr, IsErrOf, IsTrue, Option, option_map, Ok, alloc_error};
+ghost use Rattle.std.specs.Prelude.{◌≡◌, ℕ, ◌<◌, List, length, IfSome, IfOk, IfErr, IsErrOf, IsTrue, Option, option_map, Ok, alloc_error};
 ghost use Rattle.std.specs.List.{list_all};
 ghost use Rattle.ow_base.specs.World.{IsWorld, started_page_count};
 ghost use Rattle.ow_base.specs.declared.worlds.World.{World};
@@ -270,7 +270,6 @@ fn is_end(text: &[u8]) -> bool
 
 // The pages of a process that starts: code, data and four of stack.
 fn page_count(program: &Program) -> usize
-    requires { IsTrue (sizes_fit program.now) }
     ensures { result ≡ started_page_count program.now }
 {
     let code = program.code.items().len().div_ceil(1024);
@@ -316,6 +315,11 @@ fn world_in(alloc: Global, text: &[u8]) -> Result<World, WorldFault>
     }
     world_of(alloc, shape, program, tty)
 }
+
+/// A text is that of one world at most.
+pub fn one_world()
+    ensures { (text : List ℕ) (a b : World) → IsWorld text a → IsWorld text b → a ≡ b }
+{}
 
 /// The world that a text spells.
 ///

@@ -1,6 +1,6 @@
 use Rattle.std.proofs.Common.{◌∙◌, sym, ap, ◌++◌, ◌≡◌}
 use Rattle.world_text.specs.WorldReading.{pieces, word_lines_at}
-use Rattle.world_text.proofs.WorldWords.{lines_next, lines_done, with_words}
+use Rattle.world_text.proofs.WorldWords.{lines_next, lines_done}
 use Rattle.world_text.proofs.world_file.word_lines_at.Goals as goal
 
 pub loop-line-preserved : goal.loop-line-preserved

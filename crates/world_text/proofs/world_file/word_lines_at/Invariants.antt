@@ -1,4 +1,4 @@
-use Rattle.std.proofs.Common.{◌≡◌, ◌++◌, length}
+use Rattle.std.proofs.Common.{◌≡◌, length}
 use Rattle.world_text.specs.WorldReading.{pieces, word_lines_at}
 use Rattle.world_text.proofs.WorldWords.{with_words}
 use Rattle.world_text.proofs.world_file.word_lines_at.Given as goal

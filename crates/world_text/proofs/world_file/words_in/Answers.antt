@@ -1,5 +1,5 @@
-use Rattle.std.proofs.Common.{arith, ◌-◌, length, ◌∙◌, sym, ◌≡◌, ap, ◌++◌, ◌∷◌, []}
-use Rattle.world_text.specs.WorldReading.{words_in, with_front}
+use Rattle.std.proofs.Common.{arith, ◌-◌, length, ◌∙◌, sym}
+use Rattle.world_text.specs.WorldReading.{words_in}
 use Rattle.world_text.proofs.WorldWords.{not_empty, words_stop, words_full, words_more, words_end, no_front, room_left}
 use Rattle.world_text.proofs.world_file.words_in.Goals as goal
 
