@@ -10,6 +10,9 @@ use ow_base::{List, Load, Program, Shape, Start, World, decimal, hex8};
 use std::alloc::{AllocError, AllocFailed, Global};
 use thiserror::Error;
 
+// The most words of a line.
+const LINE_WORDS: usize = 16;
+
 /// Why no world was read.
 #[derive(Debug, Drop, Error)]
 pub enum WorldFault {
@@ -141,7 +144,7 @@ fn word_at(text: &[u8]) -> Option<(u32, &[u8])>
 }
 
 // The words of a line behind its key.
-fn words_in(text: &[u8]) -> Option<ArrayVec<u32, 16>>
+fn words_in(text: &[u8]) -> Option<ArrayVec<u32, LINE_WORDS>>
     ensures { option_map (λ words. words.items) result ≡ words_in 16 text.now }
 {
     let mut words = ArrayVec::new();
@@ -161,7 +164,7 @@ fn words_in(text: &[u8]) -> Option<ArrayVec<u32, 16>>
 
 // The words of a line of a key and words.
 #[tactic(auto, unfolding(crate::specs::WorldReading::word_line_at))]
-fn word_line_at<'a>(key: &[u8], text: &'a [u8]) -> Option<(ArrayVec<u32, 16>, &'a [u8])>
+fn word_line_at<'a>(key: &[u8], text: &'a [u8]) -> Option<(ArrayVec<u32, LINE_WORDS>, &'a [u8])>
     ensures line { option_map (λ p. (p.0.items, pieces 10 p.1.now)) result ≡ word_line_at key.now (pieces 10 text.now) }
     ensures shorter { IfSome result (λ p. length p.1.now < length text.now) }
 {
