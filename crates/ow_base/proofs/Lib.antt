@@ -1,2 +1,3 @@
--- How writes are put together, for every writer.
+-- Lemmas that several crates use: how writes are put together, and how numbers are spelled.
+pub mod Spelled
 pub mod Writing

@@ -3,6 +3,7 @@
 
 mod fakes;
 mod machine;
+mod numerals;
 mod outside;
 mod sequence;
 mod standard;
@@ -11,6 +12,7 @@ mod worlds;
 
 pub use fakes::{FixedSink, FixedSource, MemSink, MemSource};
 pub use machine::{AreaId, Bank, Came, Fault, Panicked, Regs, Rights, Shape, Width};
+pub use numerals::{decimal, hex8};
 pub use outside::{Failed, Sink, Source};
 pub use sequence::List;
 pub use standard::{StdSink, StdSource};

@@ -1,0 +1,2 @@
+-- How a world is read from its text.
+pub mod WorldReading
