@@ -42,6 +42,14 @@ impl Register {
     {
         self.number
     }
+
+    // The register with this number.
+    pub(crate) const fn from_field(field: u32) -> Register
+        requires { field < 32 }
+        ensures { result ≡ field }
+    {
+        Register { number: field }
+    }
 }
 
 /// An immediate of 12 bits (manual, section 2.2): a signed number from -2048 to 2047, as a word of 32
@@ -85,7 +93,7 @@ impl Immediate {
     }
 
     // The immediate with these 12 bits.
-    pub const fn extended(field: u32) -> Immediate
+    pub(crate) const fn extended(field: u32) -> Immediate
         requires { field < 2 ^ 12 }
         ensures { result ≡ sign_extended 12 field }
     {
@@ -140,7 +148,7 @@ impl BranchOffset {
     }
 
     // The offset with these 13 bits, the lowest of which is 0.
-    pub const fn extended(field: u32) -> BranchOffset
+    pub(crate) const fn extended(field: u32) -> BranchOffset
         requires fits { field < 2 ^ 13 }
         requires even { field % 2 ≡ 0 }
         ensures { result ≡ sign_extended 13 field }
@@ -197,7 +205,7 @@ impl JumpOffset {
     }
 
     // The offset with these 21 bits, the lowest of which is 0.
-    pub const fn extended(field: u32) -> JumpOffset
+    pub(crate) const fn extended(field: u32) -> JumpOffset
         requires fits { field < 2 ^ 21 }
         requires even { field % 2 ≡ 0 }
         ensures { result ≡ sign_extended 21 field }
@@ -250,6 +258,14 @@ impl UpperImmediate {
     {
         self.number
     }
+
+    // The upper 20 bits that are this number.
+    pub(crate) const fn from_field(field: u32) -> UpperImmediate
+        requires { field < 2 ^ 20 }
+        ensures { result ≡ field }
+    {
+        UpperImmediate { number: field }
+    }
 }
 
 /// By how many bits a shift goes (manual, section 2.4): 0 to 31.
@@ -288,5 +304,13 @@ impl ShiftAmount {
         ensures fits { result < 32 }
     {
         self.number
+    }
+
+    // The shift by this many bits.
+    pub(crate) const fn from_field(field: u32) -> ShiftAmount
+        requires { field < 32 }
+        ensures { result ≡ field }
+    {
+        ShiftAmount { number: field }
     }
 }
