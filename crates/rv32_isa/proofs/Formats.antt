@@ -93,7 +93,7 @@ pub record RFields (w opcode funct3 funct7 rd rs1 rs2 : ℕ) : Type 0 where
 
 pub r_fields : (opcode funct3 funct7 rd rs1 rs2 : ℕ) → opcode < 2 ^ 7 → funct3 < 2 ^ 3 → funct7 < 2 ^ 7 → rd < 32 → rs1 < 32 → rs2 < 32 →
     RFields (r_word opcode funct3 funct7 rd rs1 rs2) opcode funct3 funct7 rd rs1 rs2
-r_fields opcode funct3 funct7 rd rs1 rs2 h0 h1 h2 h3 h4 h5 = record { at_opcode = omega arith; at_funct3 = omega arith; at_funct7 = omega arith; at_rd = omega arith; at_rs1 = omega arith; at_rs2 = omega arith; }
+r_fields opcode funct3 funct7 rd rs1 rs2 h0 h1 h2 h3 h4 h5 = record { at_opcode = omega arith; at_funct3 = omega arith; at_funct7 = omega arith; at_rd = omega arith; at_rs1 = omega arith; at_rs2 = omega arith }
 
 pub record IFields (w opcode funct3 rd rs1 : ℕ) : Type 0 where
   pub at_opcode : bits w 0 7 ≡ opcode
@@ -103,7 +103,7 @@ pub record IFields (w opcode funct3 rd rs1 : ℕ) : Type 0 where
 
 pub i_fields : (opcode funct3 rd rs1 imm : ℕ) → opcode < 2 ^ 7 → funct3 < 2 ^ 3 → rd < 32 → rs1 < 32 →
     IFields (i_word opcode funct3 rd rs1 imm) opcode funct3 rd rs1
-i_fields opcode funct3 rd rs1 imm h0 h1 h2 h3 = record { at_opcode = omega arith; at_funct3 = omega arith; at_rd = omega arith; at_rs1 = omega arith; }
+i_fields opcode funct3 rd rs1 imm h0 h1 h2 h3 = record { at_opcode = omega arith; at_funct3 = omega arith; at_rd = omega arith; at_rs1 = omega arith }
 
 pub record SFields (w opcode funct3 rs1 rs2 : ℕ) : Type 0 where
   pub at_opcode : bits w 0 7 ≡ opcode
@@ -113,7 +113,7 @@ pub record SFields (w opcode funct3 rs1 rs2 : ℕ) : Type 0 where
 
 pub s_fields : (opcode funct3 rs1 rs2 imm : ℕ) → opcode < 2 ^ 7 → funct3 < 2 ^ 3 → rs1 < 32 → rs2 < 32 →
     SFields (s_word opcode funct3 rs1 rs2 imm) opcode funct3 rs1 rs2
-s_fields opcode funct3 rs1 rs2 imm h0 h1 h2 h3 = record { at_opcode = omega arith; at_funct3 = omega arith; at_rs1 = omega arith; at_rs2 = omega arith; }
+s_fields opcode funct3 rs1 rs2 imm h0 h1 h2 h3 = record { at_opcode = omega arith; at_funct3 = omega arith; at_rs1 = omega arith; at_rs2 = omega arith }
 
 pub record BFields (w opcode funct3 rs1 rs2 : ℕ) : Type 0 where
   pub at_opcode : bits w 0 7 ≡ opcode
@@ -123,7 +123,7 @@ pub record BFields (w opcode funct3 rs1 rs2 : ℕ) : Type 0 where
 
 pub b_fields : (opcode funct3 rs1 rs2 imm : ℕ) → opcode < 2 ^ 7 → funct3 < 2 ^ 3 → rs1 < 32 → rs2 < 32 →
     BFields (b_word opcode funct3 rs1 rs2 imm) opcode funct3 rs1 rs2
-b_fields opcode funct3 rs1 rs2 imm h0 h1 h2 h3 = record { at_opcode = omega arith; at_funct3 = omega arith; at_rs1 = omega arith; at_rs2 = omega arith; }
+b_fields opcode funct3 rs1 rs2 imm h0 h1 h2 h3 = record { at_opcode = omega arith; at_funct3 = omega arith; at_rs1 = omega arith; at_rs2 = omega arith }
 
 pub record UFields (w opcode rd : ℕ) : Type 0 where
   pub at_opcode : bits w 0 7 ≡ opcode
@@ -131,7 +131,7 @@ pub record UFields (w opcode rd : ℕ) : Type 0 where
 
 pub u_fields : (opcode rd imm : ℕ) → opcode < 2 ^ 7 → rd < 32 → imm < 2 ^ 20 →
     UFields (u_word opcode rd imm) opcode rd
-u_fields opcode rd imm h0 h1 h2 = record { at_opcode = omega arith; at_rd = omega arith; }
+u_fields opcode rd imm h0 h1 h2 = record { at_opcode = omega arith; at_rd = omega arith }
 
 pub record JFields (w opcode rd : ℕ) : Type 0 where
   pub at_opcode : bits w 0 7 ≡ opcode
@@ -139,7 +139,7 @@ pub record JFields (w opcode rd : ℕ) : Type 0 where
 
 pub j_fields : (opcode rd imm : ℕ) → opcode < 2 ^ 7 → rd < 32 →
     JFields (j_word opcode rd imm) opcode rd
-j_fields opcode rd imm h0 h1 = record { at_opcode = omega arith; at_rd = omega arith; }
+j_fields opcode rd imm h0 h1 = record { at_opcode = omega arith; at_rd = omega arith }
 
 pub u_imm : (opcode rd imm : ℕ) → opcode < 2 ^ 7 → rd < 32 → imm < 2 ^ 20 → bits (u_word opcode rd imm) 12 20 ≡ imm
 u_imm opcode rd imm h0 h1 h2 = omega arith
@@ -171,4 +171,3 @@ j_low opcode rd imm h0 h1 h = omega arith
 
 pub j_imm : (opcode rd imm : ℕ) → opcode < 2 ^ 7 → rd < 32 → IsEvenSigned 21 imm → j_immediate (j_word opcode rd imm) ≡ imm
 j_imm opcode rd imm h0 h1 h = ap (sign_extended 21) (j_low opcode rd imm h0 h1 h) ∙ signed21 imm h.0
-

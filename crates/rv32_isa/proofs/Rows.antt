@@ -139,8 +139,8 @@ register_acts : (funct3 funct7 rd rs1 rs2 : ℕ) (regs : List ℕ) (pc : ℕ)
     → act_or_illegal (register_row funct3 funct7 rd rs1 rs2) regs pc ≡ register_act funct3 funct7 rd (register regs rs1) (register regs rs2)
 unfolding register_row register_act
 register_acts funct3 funct7 rd rs1 rs2 regs pc =
-    either (funct7 == 0) _ _ _ _ regs pc (either (funct3 == 0) _ _ _ _ regs pc refl ( either (funct3 == 1) _ _ _ _ regs pc refl ( either (funct3 == 2) _ _ _ _ regs pc refl ( either (funct3 == 3) _ _ _ _ regs pc refl ( either (funct3 == 4) _ _ _ _ regs pc refl ( either (funct3 == 5) _ _ _ _ regs pc refl ( either (funct3 == 6) _ _ _ _ regs pc refl ( refl)))))))) (
-    either (funct7 == 32) _ _ _ _ regs pc (either (funct3 == 0) _ _ _ _ regs pc refl ( either (funct3 == 5) _ _ _ _ regs pc refl ( refl))) (
+    either (funct7 == 0) _ _ _ _ regs pc (either (funct3 == 0) _ _ _ _ regs pc refl (either (funct3 == 1) _ _ _ _ regs pc refl (either (funct3 == 2) _ _ _ _ regs pc refl (either (funct3 == 3) _ _ _ _ regs pc refl (either (funct3 == 4) _ _ _ _ regs pc refl (either (funct3 == 5) _ _ _ _ regs pc refl (either (funct3 == 6) _ _ _ _ regs pc refl (refl)))))))) (
+    either (funct7 == 32) _ _ _ _ regs pc (either (funct3 == 0) _ _ _ _ regs pc refl (either (funct3 == 5) _ _ _ _ regs pc refl (refl))) (
     refl))
 
 system_acts : (word : ℕ) (regs : List ℕ) (pc : ℕ) → act_or_illegal (system_row word) regs pc ≡ system_act word
@@ -237,7 +237,7 @@ register_spells : (w funct3 funct7 rd rs1 rs2 : ℕ) → funct3 < 8 → r_word 0
 unfolding register_row
 register_spells w funct3 funct7 rd rs1 rs2 b h =
     let at : (a c : ℕ) → funct3 ≡ a → funct7 ≡ c → r_word 0x33 a c rd rs1 rs2 ≡ w
-        = λ a c d e. at2 (λ p q. r_word 0x33 p q rd rs1 rs2) w funct3 a funct7 c d e h in
+    = λ a c d e. at2 (λ p q. r_word 0x33 p q rd rs1 rs2) w funct3 a funct7 c d e h in
     choose w funct7 0 _ _ (λ z.
     choose w funct3 0 _ _ (λ e. at 0 0 e z) (λ n0.
     choose w funct3 1 _ _ (λ e. at 1 0 e z) (λ n1.
@@ -270,10 +270,10 @@ row_spells w h =
     let funct7 = bits w 25 7 in
     let small : bits w 12 3 < 8 = omega arith in
     let i : (a c : ℕ) → op ≡ a → funct3 ≡ c → i_word a c rd rs1 (i_immediate w) ≡ w
-        = λ a c d e. at2 (λ p q. i_word p q rd rs1 (i_immediate w)) w op a funct3 c d e (i_again w h) in
+    = λ a c d e. at2 (λ p q. i_word p q rd rs1 (i_immediate w)) w op a funct3 c d e (i_again w h) in
     let i' : (a : ℕ) → op ≡ a → i_word a funct3 rd rs1 (i_immediate w) ≡ w = λ a d. i a funct3 d refl in
     let r : (a : ℕ) → op ≡ a → r_word a funct3 funct7 rd rs1 rs2 ≡ w
-        = λ a d. at1 (λ p. r_word p funct3 funct7 rd rs1 rs2) w op a d (r_again w h) in
+    = λ a d. at1 (λ p. r_word p funct3 funct7 rd rs1 rs2) w op a d (r_again w h) in
     choose w op 0x37 _ _ (λ e. at1 (λ p. u_word p rd (bits w 12 20)) w op _ e (u_again w h)) (λ n0.
     choose w op 0x17 _ _ (λ e. at1 (λ p. u_word p rd (bits w 12 20)) w op _ e (u_again w h)) (λ n1.
     choose w op 0x6f _ _ (λ e. at1 (λ p. j_word p rd (j_immediate w)) w op _ e (j_again w h)) (λ n2.

@@ -1,12 +1,24 @@
-ghost use Rattle.std.specs.Prelude.{◌≡◌, ℕ, ◌<◌, ◌≤◌, ◌^◌, List, Option, IfSome, IfNone};
+ghost use Rattle.std.specs.Prelude.{◌≡◌, ℕ, ◌<◌, ◌≤◌, ◌^◌, List, ◌==◌, if◌then◌else◌, IfSome, IfNone};
 ghost use Rattle.ow_base.specs.Words.{bits};
 ghost use Rattle.ow_base.specs.UserStep.{
-    act_of, i_immediate, s_immediate, b_immediate, j_immediate,
+  act_of,
+  i_immediate,
+  s_immediate,
+  b_immediate,
+  j_immediate,
 };
 ghost use Rattle.rv32_isa.specs.declared.instr.Instr.{Instr};
 ghost use Rattle.rv32_isa.specs.Table.{word_of, Fits};
 ghost use Rattle.rv32_isa.specs.Rows.{
-    branch_row, load_row, store_row, shift_row, immediate_row, register_row, system_row, row_by, row_of,
+  branch_row,
+  load_row,
+  store_row,
+  shift_row,
+  immediate_row,
+  register_row,
+  system_row,
+  row_by,
+  row_of,
 };
 ghost use Rattle.rv32_isa.specs.Meaning.{act_or_illegal};
 
@@ -49,17 +61,25 @@ struct Fields {
 impl Fields {
     #[tactic(auto, unfolding(crate::specs::Rows::row_by))]
     fn row(self) -> Option<Instr>
-        requires funct3 { self.funct3 < 8 }
-        ensures {
-            result ≡ row_by self.word self.opcode self.rd self.funct3 self.rs1 self.rs2 self.funct7
-        }
+        requires { self.funct3 < 8 }
+        ensures { result ≡ row_by self.word self.opcode self.rd self.funct3 self.rs1 self.rs2 self.funct7 }
     {
-        let Fields { word, opcode, funct3, funct7, rd, rs1, rs2 } = self;
+        let Fields {
+            word,
+            opcode,
+            funct3,
+            funct7,
+            rd,
+            rs1,
+            rs2,
+        } = self;
+        let imm = u_immediate(word);
+        let offset = j_immediate(word);
         match opcode {
-            0x37 => Some(Instr::Lui { rd, imm: u_immediate(word) }),
-            0x17 => Some(Instr::Auipc { rd, imm: u_immediate(word) }),
-            0x6f => Some(Instr::Jal { rd, offset: j_immediate(word) }),
-            0x67 if funct3 == 0 => Some(Instr::Jalr { rd, rs1, offset: i_immediate(word) }),
+            0x37 => Some(Instr::Lui { rd, imm }),
+            0x17 => Some(Instr::Auipc { rd, imm }),
+            0x6f => Some(Instr::Jal { rd, offset }),
+            0x67 => jalr(funct3, rd, rs1, i_immediate(word)),
             0x63 => branch(funct3, rs1, rs2, b_immediate(word)),
             0x03 => load(funct3, rd, rs1, i_immediate(word)),
             0x23 => store(funct3, rs1, rs2, s_immediate(word)),
@@ -68,10 +88,32 @@ impl Fields {
                 immediate(funct3, funct7, rd, rs1, i_immediate(word), amount)
             }
             0x33 => between_registers(funct3, funct7, rd, rs1, rs2),
-            0x0f if funct3 == 0 => Some(Instr::Fence { rd, rs1, imm: i_immediate(word) }),
+            0x0f => fence(funct3, rd, rs1, i_immediate(word)),
             0x73 => system(word),
             _ => None,
         }
+    }
+}
+
+// A jump through a register (manual, section 2.5), by funct3.
+fn jalr(funct3: u32, rd: Register, rs1: Register, offset: Immediate) -> Option<Instr>
+    ensures { result ≡ (if funct3 == 0 then Some (Instr.Jalr rd rs1 offset) else None) }
+{
+    if funct3 == 0 {
+        Some(Instr::Jalr { rd, rs1, offset })
+    } else {
+        None
+    }
+}
+
+// FENCE (manual, section 2.7), by funct3.
+fn fence(funct3: u32, rd: Register, rs1: Register, imm: Immediate) -> Option<Instr>
+    ensures { result ≡ (if funct3 == 0 then Some (Instr.Fence rd rs1 imm) else None) }
+{
+    if funct3 == 0 {
+        Some(Instr::Fence { rd, rs1, imm })
+    } else {
+        None
     }
 }
 

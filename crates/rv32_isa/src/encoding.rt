@@ -1,6 +1,13 @@
 ghost use Rattle.std.specs.Prelude.{◌≡◌, ◌<◌, ◌^◌, true};
 ghost use Rattle.rv32_isa.specs.Table.{
-    r_word, i_word, s_word, b_word, u_word, j_word, word_of, is_computation,
+  r_word,
+  i_word,
+  s_word,
+  b_word,
+  u_word,
+  j_word,
+  word_of,
+  is_computation,
 };
 
 use crate::fields::{BranchOffset, Immediate, JumpOffset, Register, ShiftAmount, UpperImmediate};
@@ -109,11 +116,7 @@ fn s_word(funct3: u32, rs1: Register, rs2: Register, imm: Immediate) -> u32
 {
     let low = imm.word() % 0x20;
     let high = imm.word() / 0x20 % 0x80;
-    0x23 + (low << 7)
-        + (funct3 << 12)
-        + (rs1.number() << 15)
-        + (rs2.number() << 20)
-        + (high << 25)
+    0x23 + (low << 7) + (funct3 << 12) + (rs1.number() << 15) + (rs2.number() << 20) + (high << 25)
 }
 
 fn b_word(funct3: u32, rs1: Register, rs2: Register, imm: BranchOffset) -> u32

@@ -9,25 +9,18 @@ ghost use Rattle.rv32_isa.specs.Meaning.{act};
 
 /// The word of an instruction tells the processor to do what the instruction does.
 pub const fn rows_agree()
-    ensures {
-        (instr : Instr) → Fits instr → (regs : List ℕ) (pc : ℕ)
-            → act_of (word_of instr) regs pc ≡ act instr regs pc
-    }
-{
-}
+    ensures { (instr : Instr) → Fits instr → (regs : List ℕ) (pc : ℕ)
+        → act_of (word_of instr) regs pc ≡ act instr regs pc }
+{}
 
 /// The word of an instruction is read as that instruction. So `decode(encode(instr))` is `Some(instr)`, and
 /// no two instructions have one word.
 pub const fn rows_read_back()
     ensures { (instr : Instr) → Fits instr → row_of (word_of instr) ≡ Some instr }
-{
-}
+{}
 
 /// A word that no instruction has is illegal.
 pub const fn others_are_illegal()
-    ensures {
-        (word : ℕ) → word < 2 ^ 32 → ((instr : Instr) → Fits instr → word_of instr ≡ word → ⊥)
-            → (regs : List ℕ) (pc : ℕ) → act_of word regs pc ≡ Illegal
-    }
-{
-}
+    ensures { (word : ℕ) → word < 2 ^ 32 → ((instr : Instr) → Fits instr → word_of instr ≡ word → ⊥)
+        → (regs : List ℕ) (pc : ℕ) → act_of word regs pc ≡ Illegal }
+{}
