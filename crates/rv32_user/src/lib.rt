@@ -10,4 +10,4 @@ mod stepping;
 
 pub use ow_base::{Fault, Regs, Width};
 pub use space::Space;
-pub use stepping::{step, StepEnd};
+pub use stepping::{StepEnd, step};
