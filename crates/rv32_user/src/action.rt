@@ -12,20 +12,11 @@ use rv32_isa::{BranchOffset, Immediate, Instr, Register};
 #[derive(Clone, Copy)]
 pub(crate) enum Action {
     // The register takes the value.
-    Set {
-        rd: Register,
-        value: u32,
-    },
+    Set { rd: Register, value: u32 },
     // The register takes the address behind the instruction, and control goes to the target.
-    Jump {
-        rd: Register,
-        target: u32,
-    },
+    Jump { rd: Register, target: u32 },
     // Control goes to the target where the branch is taken.
-    Branch {
-        taken: bool,
-        target: u32,
-    },
+    Branch { taken: bool, target: u32 },
     Load(Load),
     Store(Store),
     Fence,
@@ -62,7 +53,11 @@ pub(crate) fn action_of(instr: Instr, regs: &Regs, pc: u32) -> Action
         Instr::Blt { rs1, rs2, offset } => branches(is_less(regs, rs1, rs2), pc, offset),
         Instr::Bge { rs1, rs2, offset } => branches(!is_less(regs, rs1, rs2), pc, offset),
         Instr::Bltu { rs1, rs2, offset } => branches(read(regs, rs1) < read(regs, rs2), pc, offset),
-        Instr::Bgeu { rs1, rs2, offset } => branches(read(regs, rs1) >= read(regs, rs2), pc, offset),
+        Instr::Bgeu { rs1, rs2, offset } => branches(
+            read(regs, rs1) >= read(regs, rs2),
+            pc,
+            offset,
+        ),
         Instr::Lb { rd, rs1, offset } => loads(Width::Byte, true, rd, sum(regs, rs1, offset)),
         Instr::Lh { rd, rs1, offset } => loads(Width::Half, true, rd, sum(regs, rs1, offset)),
         Instr::Lw { rd, rs1, offset } => loads(Width::Word, false, rd, sum(regs, rs1, offset)),
