@@ -1,0 +1,14 @@
+//! The machine.
+#![tactic(auto)]
+
+pub use ow_base::{Bank, Came, Fault, KeyByte, PanicRecord, Panicked, Point, Regs, Shape};
+
+/// How a turn in user mode ends: an instruction was made, the slice is over, or the instruction is a
+/// call or has faulted.
+#[derive(Clone, Copy, Debug, PartialEq, Eq)]
+pub enum UserEnd {
+    Next,
+    Slice,
+    Call,
+    Fault(Fault),
+}
