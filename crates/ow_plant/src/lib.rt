@@ -1,6 +1,9 @@
 //! The machine.
 #![tactic(auto)]
 
+mod displays;
+
+pub use displays::Display;
 pub use ow_base::{Bank, Came, Fault, KeyByte, PanicRecord, Panicked, Point, Regs, Shape};
 
 /// How a turn in user mode ends: an instruction was made, the slice is over, or the instruction is a

@@ -1,0 +1,2 @@
+-- Lemmas of the plant.
+pub mod Rows
