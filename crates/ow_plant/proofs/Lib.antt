@@ -1,2 +1,4 @@
 -- Lemmas of the plant.
 pub mod Rows
+pub mod Frames
+pub mod Stores

@@ -1,5 +1,5 @@
 -- What contracts see of the plant.
-use Rattle.std.specs.Prelude.{◌≡◌, ℕ, ◌+◌, ◌-◌, ◌*◌, ◌/◌, ◌%◌, ◌^◌, ◌<◌, min, Bool, true, false, MatchBool, nat_lt, ◌==◌, if◌then◌else◌, List, [], ◌∷◌, ◌++◌, replicate, length, slice_get, slice_index, option_map, Option, Some, None}
+use Rattle.std.specs.Prelude.{◌≡◌, ℕ, ◌+◌, ◌-◌, ◌*◌, ◌/◌, ◌%◌, ◌^◌, ◌<◌, ◌≤◌, min, Bool, true, false, MatchBool, nat_lt, ◌==◌, if◌then◌else◌, List, [], ◌∷◌, ◌++◌, replicate, length, slice_get, slice_index, option_map, Option, Some, None}
 use Rattle.ow_base.specs.Screen.{Screen, blank_screen, drawn}
 use Rattle.ow_base.specs.Pages.{Pages, no_pages, page_space, rights_at}
 use Rattle.ow_base.specs.UserStep.{Stepped, Next, Call, Faulted, user_step}
@@ -11,6 +11,7 @@ use Rattle.ow_base.specs.declared.machine.Shape.{Shape}
 use Rattle.ow_base.specs.declared.machine.Came.{Came}
 use Rattle.ow_base.specs.declared.machine.Came.TheVariants as came
 use Rattle.ow_base.specs.declared.worlds.PanicRecord.{PanicRecord}
+use Rattle.ow_plant.specs.declared.pages.Frame.{Frame}
 use Rattle.ow_plant.specs.declared.UserEnd.{UserEnd}
 use Rattle.ow_plant.specs.declared.UserEnd.TheVariants as end
 
@@ -20,38 +21,49 @@ pub record Terminal : Type 0 where
   pub room : ℕ
   pub display : Screen
 
--- a page that is placed: its number, its rights, and its 4,096 bytes
-pub record PlacedPage : Type 0 where
-  pub page : ℕ
-  pub rights : Rights
-  pub bytes : List ℕ
-
--- the placed pages, and by page number the place of each among them plus one, 0 for none
+-- the frames of memory, how many of them hold a page, and by page number the frame's place counted from 1,
+-- 0 for a page that is not there
 pub record PageStore : Type 0 where
-  pub placed : List PlacedPage
+  pub frames : List Frame
+  pub used : ℕ
   pub table : List ℕ
 
--- the page that stands at a place, counted from 1
-unfoldable pub placed_at : (placed : List PlacedPage) → (place : ℕ) → Option PlacedPage
-placed_at placed place = if place == 0 then None else slice_get placed (place - 1)
+-- a table leads pages to the frames that are used, no two pages to one frame
+pub record IsLaidOut (table : List ℕ) (used room : ℕ) : Type 0 where
+  pub within : (page : ℕ) → slice_index table page ≤ used
+  pub apart : (p q : ℕ) → slice_index table p ≡ slice_index table q → 0 < slice_index table p → p ≡ q
+  pub fits : used ≤ room
+  pub most : room ≤ 384
+  pub whole : 0 < room → length table ≡ 2 ^ 20
 
-unfoldable pub page_at : PageStore → (page : ℕ) → Option PlacedPage
-page_at store page = placed_at store.placed (slice_index store.table page)
+-- the frame at a place, counted from 1
+unfoldable pub frame_at : (frames : List Frame) → (place : ℕ) → Option Frame
+frame_at frames place = if place == 0 then None else slice_get frames (place - 1)
 
-abbrev pub byte_of : (offset : ℕ) → Option PlacedPage → ℕ
-byte_of offset (Some p) = slice_index p.bytes offset
-byte_of offset None = 0
+-- the frame that holds a page
+unfoldable pub frame_of : PageStore → (page : ℕ) → Option Frame
+frame_of store page = frame_at store.frames (slice_index store.table page)
 
--- the pages of bytes that the placed ones stand for
+-- a frame's rights, where there is one
+abbrev pub rights_in : Option Frame → Option Rights
+rights_in (Some frame) = Some frame.rights
+rights_in None = None
+
+-- a byte of a frame; 0 where there is none
+abbrev pub byte_in : (offset : ℕ) → Option Frame → ℕ
+byte_in offset (Some frame) = slice_index frame.bytes offset
+byte_in offset None = 0
+
+-- the pages of bytes that the frames and the table stand for
 unfoldable pub pages_of : PageStore → Pages
 pages_of store = record {
-  rights = λ page. option_map (λ (p : PlacedPage). p.rights) (page_at store page);
-  bytes = λ address. byte_of (address % 4096) (page_at store (address / 4096));
+  rights = λ page. rights_in (frame_of store page);
+  bytes = λ address. byte_in (address % 4096) (frame_of store (address / 4096));
 }
 
 -- how many pages are placed
 abbrev pub placed_count : PageStore → ℕ
-placed_count store = length store.placed
+placed_count store = store.used
 
 pub record PlantState : Type 0 where
   pub armed : Bool

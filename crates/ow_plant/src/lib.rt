@@ -2,6 +2,7 @@
 #![tactic(auto)]
 
 mod displays;
+mod pages;
 
 pub use displays::Display;
 pub use ow_base::{Bank, Came, Fault, KeyByte, PanicRecord, Panicked, Point, Regs, Shape};
