@@ -5,7 +5,7 @@ use Rattle.ow_base.specs.UserStep.{size_of}
 use Rattle.ow_base.specs.declared.machine.Width.{Width}
 use Rattle.ow_base.specs.declared.machine.Width.TheVariants.{Byte, Half, Word}
 use Rattle.ow_plant.specs.declared.pages.Frame.{Frame}
-use Rattle.ow_plant.specs.State.{PageStore, frame_at, frame_of, pages_of, byte_in}
+use Rattle.ow_plant.specs.State.{PageStore, frame_of, pages_of, byte_in}
 
 -- the byte at an address in a page that is there, by the address's distance to another one in the page
 near_byte : (s : PageStore) (a i : ℕ) (f : Frame) → frame_of s (a / 4096) ≡ Some f → a % 4096 + i < 4096

@@ -4,7 +4,7 @@ use Rattle.std.proofs.Math.Path.{fun_ext}
 use Rattle.std.proofs.lemmas.Bool.{cases_eq}
 use Rattle.std.proofs.lemmas.Bool.Decides.{nat_tests}
 use Rattle.std.proofs.lemmas.Grind.{common_steps}
-use Rattle.ow_base.specs.Pages.{Pages, with_value, with_page, stored_in, rights_at}
+use Rattle.ow_base.specs.Pages.{Pages, no_pages, with_value, with_page, stored_in, rights_at}
 use Rattle.ow_base.specs.Words.{byte_of_words}
 use Rattle.ow_base.specs.UserStep.{size_of}
 use Rattle.ow_base.specs.declared.machine.Rights.{Rights}
@@ -163,3 +163,9 @@ module _ (s : PageStore) (page : ℕ) (page_rights : Rights) (words : List ℕ) 
   pub placed : IsPlaced → pages_of (record { frames = set s.frames s.used new; used = s.used + 1; table = set s.table page (s.used + 1) }) ≡ with_page (pages_of s) page page_rights words
   unfolding grown
   placed w = pages_ext _ _ (placed_rights w) (placed_bytes w)
+
+-- where every entry of the table is 0 there is no page
+pub no_page : (s : PageStore) → ((page : ℕ) → slice_index s.table page ≡ 0) → pages_of s ≡ no_pages
+unfolding pages_of frame_of frame_at
+no_page s all =
+    pages_ext _ _ (λ page. ap (λ k. rights_in (frame_at s.frames k)) (all page)) (λ a. ap (λ k. byte_in (a % 4096) (frame_at s.frames k)) (all (a / 4096)))

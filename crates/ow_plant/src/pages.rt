@@ -1,5 +1,5 @@
 //! The pages of memory.
-ghost use Rattle.std.specs.Prelude.{◌≡◌, ℕ, ◌+◌, ◌*◌, ◌/◌, ◌%◌, ◌^◌, ◌<◌, ◌≤◌, ◌↔◌, None, IsNone, IfSome, IfErr, IfOk, Ok, Err, OnOk, OnErr, length, slice_index, nat_lt, nat_le, ◌&&◌, if◌then◌else◌};
+ghost use Rattle.std.specs.Prelude.{◌≡◌, ℕ, ◌+◌, ◌*◌, ◌/◌, ◌%◌, ◌^◌, ◌<◌, ◌≤◌, ◌↔◌, None, IsNone, IfSome, IfErr, IfOk, Ok, Err, OnOk, OnErr, vec_len, length, slice_index, nat_lt, nat_le, ◌&&◌, if◌then◌else◌};
 ghost use Rattle.ow_base.specs.Pages.{no_pages, with_page, rights_at, value_at, with_value, fetched_from, loaded_from, stored_in};
 ghost use Rattle.ow_base.specs.UserStep.{size_of};
 ghost use Rattle.ow_base.specs.Words.{byte_of_words};
@@ -8,6 +8,8 @@ ghost use Rattle.ow_plant.specs.State.{frame_at, frame_of, pages_of, placed_coun
 use ow_base::{Fault, Rights, Width};
 use std::alloc::{AllocError, Global};
 use std::marker::Model;
+
+const TABLE_LENGTH: usize = 1 << 20;
 
 /// A frame of 4,096 bytes, and what a program may do with the page in it.
 #[derive(Clone, Copy, Debug)]
@@ -50,6 +52,27 @@ impl Memory {
             used: 0,
             table: Vec::new(alloc),
         }
+    }
+
+    /// Memory of so many frames, and no page in them.
+    #[tactic(auto, using(crate::proofs::Stores::no_page))]
+    pub(crate) fn with_frames(alloc: Global, count: usize) -> Result<Memory, AllocError>
+        requires { count ≤ 384 }
+        ensures pages { IfOk result (λ m. pages_of m ≡ no_pages) }
+        ensures used { IfOk result (λ m. placed_count m ≡ 0) }
+        ensures room { IfOk result (λ m. length m.frames ≡ count) }
+    {
+        let table = zeros(alloc, TABLE_LENGTH)?;
+        let blank = Frame {
+            rights: Rights::Values,
+            bytes: [0; 4096],
+        };
+        let frames = vec![in alloc; blank; count]?;
+        Ok(Memory {
+            frames,
+            used: 0,
+            table,
+        })
     }
 
     /// The place of a page's frame, counted from 1; 0 where the page is not there.
@@ -210,4 +233,11 @@ fn rights_for(writable: bool) -> Rights
     ensures { result ≡ rights_of writable }
 {
     if writable { Rights::Values } else { Rights::Code }
+}
+
+fn zeros(alloc: Global, count: usize) -> Result<Vec<u16>, AllocError>
+    ensures long { IfOk result (λ v. vec_len v ≡ count) }
+    ensures zero { IfOk result (λ v. (k : ℕ) → slice_index v.items k ≡ 0) }
+{
+    vec![in alloc; 0; count]
 }
