@@ -2,9 +2,12 @@
 #![tactic(auto)]
 
 mod displays;
+mod machine;
 mod pages;
+mod terminals;
 
 pub use displays::Display;
+pub use machine::Plant;
 pub use ow_base::{Bank, Came, Fault, KeyByte, PanicRecord, Panicked, Point, Regs, Shape};
 
 /// How a turn in user mode ends: an instruction was made, the slice is over, or the instruction is a
