@@ -2,3 +2,4 @@
 pub mod Rows
 pub mod Frames
 pub mod Stores
+pub mod Steps
