@@ -88,19 +88,19 @@ module _ (s : PageStore) (a : ℕ) (width : Width) (value k : ℕ) (old new : Fr
   unfolding frame_of after
   elsewhere w p apart =
       frame_at-other s.frames k (slice_index s.table p) new
-          (λ (e : slice_index s.table p ≡ k + 1). apart (w.laid.apart p (a / 4096) (e ∙ sym w.place) (omega arith)))
+      (λ (e : slice_index s.table p ≡ k + 1). apart (w.laid.apart p (a / 4096) (e ∙ sym w.place) (omega arith)))
 
   same_rights : IsWritten → (p : ℕ) → (pages_of after).rights p ≡ (pages_of s).rights p
   unfolding pages_of
   same_rights w p = elim (cases_eq p (a / 4096)) [
-      inl e ↦ let at = at_page w p e in ap rights_in at.1 ∙ ap Some w.rights ∙ sym (ap rights_in at.0)
+    | inl e ↦ let at = at_page w p e in ap rights_in at.1 ∙ ap Some w.rights ∙ sym (ap rights_in at.0)
     | inr apart ↦ ap rights_in (elsewhere w p apart)
   ]
 
   new_bytes : IsWritten → (b : ℕ) → (pages_of after).bytes b ≡ with_value (pages_of s).bytes a width value b
   unfolding pages_of
   new_bytes w b = elim (cases_eq (b / 4096) (a / 4096)) [
-      inl e ↦
+    | inl e ↦
         let at = at_page w (b / 4096) e in
         let was : slice_index old.bytes (b % 4096) ≡ (pages_of s).bytes b = sym (ap (byte_in (b % 4096)) at.0) in
         ap (byte_in (b % 4096)) at.1 ∙ w.bytes (b % 4096)
@@ -149,14 +149,14 @@ module _ (s : PageStore) (page : ℕ) (page_rights : Rights) (words : List ℕ) 
   placed_rights : IsPlaced → (p : ℕ) → (pages_of grown).rights p ≡ (with_page (pages_of s) page page_rights words).rights p
   unfolding pages_of
   placed_rights w p = elim (cases_eq p page) [
-      inl e ↦ ap rights_in (placed_page w p e) ∙ ap Some w.rights ∙ grind (arith, nat_tests)
+    | inl e ↦ ap rights_in (placed_page w p e) ∙ ap Some w.rights ∙ grind (arith, nat_tests)
     | inr apart ↦ ap rights_in (other_page w p apart) ∙ grind (arith, nat_tests)
   ]
 
   placed_bytes : IsPlaced → (a : ℕ) → (pages_of grown).bytes a ≡ (with_page (pages_of s) page page_rights words).bytes a
   unfolding pages_of
   placed_bytes w a = elim (cases_eq (a / 4096) page) [
-      inl e ↦ ap (byte_in (a % 4096)) (placed_page w (a / 4096) e) ∙ w.bytes (a % 4096) (omega arith) ∙ grind (arith, nat_tests)
+    | inl e ↦ ap (byte_in (a % 4096)) (placed_page w (a / 4096) e) ∙ w.bytes (a % 4096) (omega arith) ∙ grind (arith, nat_tests)
     | inr apart ↦ ap (byte_in (a % 4096)) (other_page w (a / 4096) apart) ∙ grind (arith, nat_tests)
   ]
 

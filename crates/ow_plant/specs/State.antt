@@ -129,14 +129,14 @@ returned_to s pid bank = record s { bank = bank; in_user = true; user_pid = pid;
 -- an instruction of the process in user mode, which UserStep says came to this
 abbrev pub StepsAs : PlantState → PlantState → UserEnd → Stepped Pages → Type 0
 StepsAs old new result (Next regs pc pages) = (result ≡ end.Next)
-  × (pages_of new.pages ≡ pages)
-  × (placed_count new.pages ≡ placed_count old.pages)
-  × (new ≡ record old { pages = new.pages; bank = record { pc = pc; regs = regs }; slice = old.slice + 1; steps = risen old.steps })
+    × (pages_of new.pages ≡ pages)
+    × (placed_count new.pages ≡ placed_count old.pages)
+    × (new ≡ record old { pages = new.pages; bank = record { pc = pc; regs = regs }; slice = old.slice + 1; steps = risen old.steps })
 StepsAs old new result Call = (result ≡ end.Call) × (new ≡ old)
 StepsAs old new result (Faulted fault) = (result ≡ end.Fault fault) × (new ≡ old)
 
 -- a turn in user mode: the slice is over after quantum instructions, else one is made
 abbrev pub TakesUserTurn : PlantState → PlantState → UserEnd → Type 0
 TakesUserTurn old new result = MatchBool (nat_lt old.slice old.shape.quantum)
-  (StepsAs old new result (user_step page_space old.bank.regs old.bank.pc (pages_of old.pages)))
-  ((result ≡ end.Slice) × (new ≡ old))
+    (StepsAs old new result (user_step page_space old.bank.regs old.bank.pc (pages_of old.pages)))
+    ((result ≡ end.Slice) × (new ≡ old))

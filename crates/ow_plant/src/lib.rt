@@ -19,3 +19,6 @@ pub enum UserEnd {
     Call,
     Fault(Fault),
 }
+
+#[cfg(test)]
+mod tests;

@@ -38,9 +38,18 @@ impl Model for Plant {
     ghost Value = { PlantState };
 
     ghost view = { λ p. record {
-        armed = p.armed; shape = p.shape; pages = p.memory; bank = p.bank; in_user = p.in_user;
-        user_pid = p.user_pid; slice = p.slice; tty0 = p.tty0; tty1 = p.tty1; steps = p.steps; traps = p.traps;
-        history = p.history.items
+      armed = p.armed;
+      shape = p.shape;
+      pages = p.memory;
+      bank = p.bank;
+      in_user = p.in_user;
+      user_pid = p.user_pid;
+      slice = p.slice;
+      tty0 = p.tty0;
+      tty1 = p.tty1;
+      steps = p.steps;
+      traps = p.traps;
+      history = p.history.items;
     } };
 
     ghost invariant = { λ p. p.armed ≡ true → length p.memory.frames ≡ p.shape.user_frames };

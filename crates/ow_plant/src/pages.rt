@@ -107,12 +107,18 @@ impl Memory {
     {
         let place = self.place_of(addr / 4096);
         if place == 0 {
-            return Err(Fault { cause: 12, value: addr });
+            return Err(Fault {
+                cause: 12,
+                value: addr,
+            });
         }
         let frame = &self.frames[place - 1];
         match frame.rights {
             Rights::Code => Ok(value_in(&frame.bytes, addr % 4096, Width::Word)),
-            Rights::Values => Err(Fault { cause: 12, value: addr }),
+            Rights::Values => Err(Fault {
+                cause: 12,
+                value: addr,
+            }),
         }
     }
 
@@ -124,7 +130,10 @@ impl Memory {
     {
         let place = self.place_of(addr / 4096);
         if place == 0 {
-            return Err(Fault { cause: 13, value: addr });
+            return Err(Fault {
+                cause: 13,
+                value: addr,
+            });
         }
         Ok(value_in(&self.frames[place - 1].bytes, addr % 4096, width))
     }
@@ -140,7 +149,10 @@ impl Memory {
         ensures count { placed_count self.new ≡ placed_count self.old }
         ensures room { length self.new.frames ≡ length self.old.frames }
     {
-        let fault = Fault { cause: 15, value: addr };
+        let fault = Fault {
+            cause: 15,
+            value: addr,
+        };
         let place = self.place_of(addr / 4096);
         if place == 0 {
             return Err(fault);
@@ -232,7 +244,11 @@ fn fill(bytes: &mut [u8; 4096], words: &[u32; 1024])
 fn rights_for(writable: bool) -> Rights
     ensures { result ≡ rights_of writable }
 {
-    if writable { Rights::Values } else { Rights::Code }
+    if writable {
+        Rights::Values
+    } else {
+        Rights::Code
+    }
 }
 
 fn zeros(alloc: Global, count: usize) -> Result<Vec<u16>, AllocError>

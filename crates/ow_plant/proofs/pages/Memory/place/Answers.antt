@@ -11,5 +11,10 @@ returns-clause-pages c =
     let new : Frame = record { rights = c.rights_for-frame.result; bytes = c.fill.new.bytes } in
     let fits : s.used < length s.frames = subst (λ (t : PageStore). t.used < length t.frames) (sym c.self.view_is) c.requires.room in
     placed s c.args.page (rights_of c.args.writable) c.args.words.now new (record {
-      laid = c.self.invariant; fits = fits; number = c.requires.number; rights = c.rights_for-frame.ensures; bytes = c.fill.ensures })
+      laid = c.self.invariant;
+      fits = fits;
+      number = c.requires.number;
+      rights = c.rights_for-frame.ensures;
+      bytes = c.fill.ensures;
+    })
     ∙ ap (λ (t : PageStore). with_page (pages_of t) c.args.page (rights_of c.args.writable) c.args.words.now) c.self.view_is

@@ -18,5 +18,12 @@ returns-clause-ok c =
     let fits : k < length s.frames = omega (arith, c.self.invariant.within (c.args.addr / 4096), place) in
     let there : slice_get s.frames k ≡ Some old = slice_get_read s.frames (length s.frames) k old refl fits c.index_mut-frame.ensures.value in
     let at = stored s c.args.addr c.args.width c.args.value k old new (record {
-      laid = c.self.invariant; place = place; there = there; fits = fits; rights = refl; bytes = c.put_value.ensures; aligned = c.requires }) c.in_default.is in
+      laid = c.self.invariant;
+      place = place;
+      there = there;
+      fits = fits;
+      rights = refl;
+      bytes = c.put_value.ensures;
+      aligned = c.requires;
+    }) c.in_default.is in
     ap (λ (t : PageStore). stored_in (pages_of t) c.args.addr c.args.width c.args.value (rights_at (pages_of t) c.args.addr)) (sym c.self.view_is) ∙ at
