@@ -3,6 +3,7 @@ ghost use Rattle.std.specs.Prelude.{◌≡◌, ℕ, ◌+◌, ◌*◌, ◌/◌, �
 ghost use Rattle.ow_base.specs.Pages.{no_pages, with_page, rights_at, value_at, with_value, fetched_from, loaded_from, stored_in};
 ghost use Rattle.ow_base.specs.UserStep.{size_of};
 ghost use Rattle.ow_base.specs.Words.{byte_of_words};
+ghost use Rattle.ow_plant.specs.Kept.{written_bytes, store_after};
 ghost use Rattle.ow_plant.specs.State.{frame_at, frame_of, pages_of, placed_count, rights_of, byte_in, rights_in};
 
 use ow_base::{Fault, Rights, Width};
@@ -126,7 +127,8 @@ impl Memory {
     #[tactic(auto, using(crate::proofs::Frames::value_within), unfolding(crate::specs::State::pages_of, crate::specs::State::frame_of, crate::specs::State::frame_at))]
     pub(crate) fn loaded(&self, addr: u32, width: Width) -> Result<u32, Fault>
         requires { addr % size_of width ≡ 0 }
-        ensures { result ≡ loaded_from (pages_of self.now).bytes addr width (rights_at (pages_of self.now) addr) }
+        ensures value { result ≡ loaded_from (pages_of self.now).bytes addr width (rights_at (pages_of self.now) addr) }
+        ensures fits { IfOk result (λ value. value < 256 ^ size_of width) }
     {
         let place = self.place_of(addr / 4096);
         if place == 0 {
@@ -140,14 +142,13 @@ impl Memory {
 
     /// Writes the low bytes of a value at an address that is a multiple of its width; where there is no
     /// page of values nothing changes, and the answer is a store page fault, cause 15.
-    #[tactic(auto, unfolding(crate::specs::State::pages_of, crate::specs::State::frame_of, crate::specs::State::frame_at))]
+    #[tactic(auto, unfolding(crate::specs::State::pages_of, crate::specs::State::frame_of, crate::specs::State::frame_at, crate::specs::Kept::store_after))]
     pub(crate) fn store_value(&mut self, addr: u32, width: Width, value: u32) -> Result<(), Fault>
         requires { addr % size_of width ≡ 0 }
         ensures ok { OnOk result (stored_in (pages_of self.old) addr width value (rights_at (pages_of self.old) addr) ≡ Ok (pages_of self.new)) }
         ensures err { IfErr result (λ f. stored_in (pages_of self.old) addr width value (rights_at (pages_of self.old) addr) ≡ Err f) }
+        ensures frames { OnOk result (self.new ≡ store_after self.old addr width value) }
         ensures same { OnErr result (self.new ≡ self.old) }
-        ensures count { placed_count self.new ≡ placed_count self.old }
-        ensures room { length self.new.frames ≡ length self.old.frames }
     {
         let fault = Fault {
             cause: 15,
@@ -185,7 +186,8 @@ impl Memory {
 /// The value of a width in a frame, the lowest byte first.
 fn value_in(bytes: &[u8; 4096], offset: u32, width: Width) -> u32
     requires { offset + size_of width ≤ 4096 }
-    ensures { result ≡ value_at (λ j. slice_index bytes.now j) offset width }
+    ensures value { result ≡ value_at (λ j. slice_index bytes.now j) offset width }
+    ensures fits { result < 256 ^ size_of width }
 {
     let at = offset as usize;
     match width {
@@ -201,7 +203,8 @@ fn value_in(bytes: &[u8; 4096], offset: u32, width: Width) -> u32
 /// Writes the low bytes of a value at an offset of a frame, the lowest byte first.
 fn put_value(bytes: &mut [u8; 4096], offset: u32, width: Width, value: u32)
     requires { offset + size_of width ≤ 4096 }
-    ensures { (j : ℕ) → slice_index bytes.new j ≡ with_value (λ i. slice_index bytes.old i) offset width value j }
+    ensures bytes { bytes.new ≡ written_bytes bytes.old offset width value }
+    ensures each { (j : ℕ) → slice_index bytes.new j ≡ with_value (λ i. slice_index bytes.old i) offset width value j }
 {
     let at = offset as usize;
     match width {

@@ -23,7 +23,7 @@ returns-clause-ok c =
       there = there;
       fits = fits;
       rights = refl;
-      bytes = c.put_value.ensures;
+      bytes = c.put_value.ensures.each;
       aligned = c.requires;
     }) c.in_default.is in
     ap (λ (t : PageStore). stored_in (pages_of t) c.args.addr c.args.width c.args.value (rights_at (pages_of t) c.args.addr)) (sym c.self.view_is) ∙ at
