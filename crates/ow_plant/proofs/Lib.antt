@@ -3,3 +3,4 @@ pub mod Rows
 pub mod Frames
 pub mod Stores
 pub mod Steps
+pub mod Turns

@@ -4,6 +4,7 @@
 mod displays;
 mod machine;
 mod pages;
+mod spaces;
 mod terminals;
 
 pub use displays::Display;

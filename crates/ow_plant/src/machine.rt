@@ -1,12 +1,14 @@
 //! The plant: processor, memory and terminals.
 ghost use Rattle.std.specs.Prelude.{◌≡◌, ℕ, ◌+◌, ◌*◌, ◌^◌, ◌<◌, ◌≤◌, ◌↔◌, true, false, [], None, length, IsNone, IsOk, IfSome, OnOk, OnErr};
 ghost use Rattle.ow_base.specs.Pages.{with_page, rights_at};
-ghost use Rattle.ow_plant.specs.State.{IsReady, pages_of, placed_count, rights_of, returned_to, entered, with_put, tty_of};
+ghost use Rattle.ow_plant.specs.State.{IsReady, TakesUserTurn, pages_of, placed_count, rights_of, returned_to, entered, with_put, tty_of};
 
 use crate::displays::Display;
 use crate::pages::Memory;
 use crate::terminals::Tty;
+use crate::UserEnd;
 use ow_base::{Bank, Came, KeyByte, PanicRecord, Panicked, Point, Regs, Shape};
+use rv32_user::{step, StepEnd};
 use std::alloc::{AllocError, Global};
 use std::marker::Model;
 
@@ -198,6 +200,27 @@ impl Plant {
         ensures { result ≡ self.now.traps }
     {
         self.traps
+    }
+
+    /// A turn of the process in user mode. After `quantum` instructions its slice is over, and nothing is
+    /// done; else one instruction is made. At a call and at a fault nothing changes.
+    pub fn user_step(&mut self) -> UserEnd
+        requires armed { self.old.armed ≡ true }
+        requires in_user { self.old.in_user ≡ true }
+        ensures { TakesUserTurn self.old self.new result }
+    {
+        if self.slice >= self.shape.quantum {
+            return UserEnd::Slice;
+        }
+        match step(&mut self.bank.regs, &mut self.bank.pc, &mut self.memory) {
+            StepEnd::Next => {
+                self.slice += 1;
+                self.steps = self.steps.saturating_add(1);
+                UserEnd::Next
+            }
+            StepEnd::Call => UserEnd::Call,
+            StepEnd::Fault(fault) => UserEnd::Fault(fault),
+        }
     }
 
     /// Begins a trap, which counts a step unless it is the closing one.
