@@ -1,0 +1,3 @@
+-- The lemmas of the crate: the fields of each format, and the rows of the table.
+pub mod Formats
+pub mod Rows
