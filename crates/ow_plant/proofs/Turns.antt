@@ -7,7 +7,7 @@ use Rattle.ow_base.specs.declared.machine.Bank.{Bank}
 use Rattle.ow_base.specs.declared.machine.Fault.{Fault}
 use Rattle.ow_plant.specs.declared.UserEnd.{UserEnd}
 use Rattle.ow_plant.specs.declared.UserEnd.TheVariants as end
-use Rattle.ow_plant.specs.State.{PageStore, PlantState, pages_of, risen, StepsAs, TakesUserTurn}
+use Rattle.ow_plant.specs.State.{PageStore, PlantState, pages_of, placed_count, risen, StepsAs, TakesUserTurn}
 use Rattle.ow_plant.specs.Kept.{Kept, kept_of, kept_space}
 use Rattle.ow_plant.proofs.Steps.{SameSize, StepsWith, steps_with}
 
@@ -54,3 +54,29 @@ unchanged old store pc regs same_pages same_pc same_regs =
     let with_pc : ℕ → PlantState = λ p. record old { bank = record { pc = p; regs = regs } } in
     let with_regs : List ℕ → PlantState = λ r. record old { bank = record { pc = old.bank.pc; regs = r } } in
     ap with_pages same_pages ∙ ap with_pc same_pc ∙ ap with_regs same_regs
+
+-- what a turn of a process leaves as it was
+pub record IsTurned (old new : PlantState) : Type 0 where
+  pub rest : new ≡ record old { pages = new.pages; bank = new.bank; slice = new.slice; steps = new.steps }
+  pub count : placed_count new.pages ≡ placed_count old.pages
+
+not_turned : (old new : PlantState) → new ≡ old → IsTurned old new
+not_turned old new e =
+    let parts : PlantState → PlantState = λ s. record old { pages = s.pages; bank = s.bank; slice = s.slice; steps = s.steps } in
+    record { rest = e ∙ sym (ap parts e); count = ap (λ (s : PlantState). placed_count s.pages) e }
+
+by_step : (old new : PlantState) (result : UserEnd) (step : Stepped Pages) → StepsAs old new result step → IsTurned old new
+by_step old new result (Next regs pc pages) h =
+    let parts : PlantState → PlantState = λ s. record old { pages = new.pages; bank = s.bank; slice = s.slice; steps = s.steps } in
+    record { rest = h.3 ∙ sym (ap parts h.3); count = h.2 }
+by_step old new result Call h = not_turned old new h.1
+by_step old new result (Faulted fault) h = not_turned old new h.1
+
+by_test : (old new : PlantState) (result : UserEnd) (step : Stepped Pages) (going : Bool)
+    → MatchBool going (StepsAs old new result step) ((result ≡ end.Slice) × (new ≡ old)) → IsTurned old new
+by_test old new result step true h = by_step old new result step h
+by_test old new result step false h = not_turned old new h.1
+
+-- a turn changes the pages, the bank, the slice and the steps alone, and places no page
+pub turned : (old new : PlantState) (result : UserEnd) → TakesUserTurn old new result → IsTurned old new
+turned old new result h = by_test old new result _ _ h

@@ -1,6 +1,6 @@
 //! The pages of memory.
 ghost use Rattle.std.specs.Prelude.{◌≡◌, ℕ, ◌+◌, ◌*◌, ◌/◌, ◌%◌, ◌^◌, ◌<◌, ◌≤◌, ◌↔◌, None, IsNone, IfSome, IfErr, IfOk, Ok, Err, OnOk, OnErr, vec_len, length, slice_index, nat_lt, nat_le, ◌&&◌, if◌then◌else◌};
-ghost use Rattle.ow_base.specs.Pages.{no_pages, with_page, rights_at, value_at, with_value, fetched_from, loaded_from, stored_in};
+ghost use Rattle.ow_base.specs.Pages.{no_pages, with_page, rights_at, value_at, with_value, page_space};
 ghost use Rattle.ow_base.specs.UserStep.{size_of};
 ghost use Rattle.ow_base.specs.Words.{byte_of_words};
 ghost use Rattle.ow_plant.specs.Kept.{written_bytes, store_after};
@@ -101,10 +101,10 @@ impl Memory {
 
     /// The word of code at an address that is a multiple of four; else an instruction page fault,
     /// cause 12 (the RISC-V manual, volume II, table of causes).
-    #[tactic(auto, using(crate::proofs::Frames::value_within), unfolding(crate::specs::State::pages_of, crate::specs::State::frame_of, crate::specs::State::frame_at))]
+    #[tactic(auto, using(crate::proofs::Frames::value_within), unfolding(ow_base::specs::Pages::page_space, crate::specs::State::pages_of, crate::specs::State::frame_of, crate::specs::State::frame_at))]
     pub(crate) fn fetched(&self, addr: u32) -> Result<u32, Fault>
         requires { addr % 4 ≡ 0 }
-        ensures { result ≡ fetched_from (pages_of self.now).bytes addr (rights_at (pages_of self.now) addr) }
+        ensures { result ≡ page_space.fetched (pages_of self.now) addr }
     {
         let place = self.place_of(addr / 4096);
         if place == 0 {
@@ -124,10 +124,10 @@ impl Memory {
     }
 
     /// The value of a width at an address that is a multiple of it; else a load page fault, cause 13.
-    #[tactic(auto, using(crate::proofs::Frames::value_within), unfolding(crate::specs::State::pages_of, crate::specs::State::frame_of, crate::specs::State::frame_at))]
+    #[tactic(auto, using(crate::proofs::Frames::value_within), unfolding(ow_base::specs::Pages::page_space, crate::specs::State::pages_of, crate::specs::State::frame_of, crate::specs::State::frame_at))]
     pub(crate) fn loaded(&self, addr: u32, width: Width) -> Result<u32, Fault>
         requires { addr % size_of width ≡ 0 }
-        ensures value { result ≡ loaded_from (pages_of self.now).bytes addr width (rights_at (pages_of self.now) addr) }
+        ensures value { result ≡ page_space.loaded (pages_of self.now) addr width }
         ensures fits { IfOk result (λ value. value < 256 ^ size_of width) }
     {
         let place = self.place_of(addr / 4096);
@@ -142,11 +142,15 @@ impl Memory {
 
     /// Writes the low bytes of a value at an address that is a multiple of its width; where there is no
     /// page of values nothing changes, and the answer is a store page fault, cause 15.
-    #[tactic(auto, unfolding(crate::specs::State::pages_of, crate::specs::State::frame_of, crate::specs::State::frame_at, crate::specs::Kept::store_after))]
+    #[tactic(auto, unfolding(ow_base::specs::Pages::page_space, crate::specs::State::pages_of, crate::specs::State::frame_of, crate::specs::State::frame_at, crate::specs::Kept::store_after))]
     pub(crate) fn store_value(&mut self, addr: u32, width: Width, value: u32) -> Result<(), Fault>
         requires { addr % size_of width ≡ 0 }
-        ensures ok { OnOk result (stored_in (pages_of self.old) addr width value (rights_at (pages_of self.old) addr) ≡ Ok (pages_of self.new)) }
-        ensures err { IfErr result (λ f. stored_in (pages_of self.old) addr width value (rights_at (pages_of self.old) addr) ≡ Err f) }
+        ensures ok {
+            OnOk result (page_space.stored (pages_of self.old) addr width value ≡ Ok (pages_of self.new))
+        }
+        ensures err {
+            IfErr result (λ fault. page_space.stored (pages_of self.old) addr width value ≡ Err fault)
+        }
         ensures frames { OnOk result (self.new ≡ store_after self.old addr width value) }
         ensures same { OnErr result (self.new ≡ self.old) }
     {

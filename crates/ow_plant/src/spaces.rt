@@ -12,17 +12,17 @@ impl Space for Memory {
 
     ghost space = { kept_space };
 
-    #[tactic(auto, unfolding(crate::specs::Kept::kept_space, ow_base::specs::Pages::page_space))]
+    #[tactic(auto, unfolding(crate::specs::Kept::kept_space))]
     fn fetch(&mut self, va: u32) -> Result<u32, Fault> {
         self.fetched(va)
     }
 
-    #[tactic(auto, unfolding(crate::specs::Kept::kept_space, ow_base::specs::Pages::page_space))]
+    #[tactic(auto, unfolding(crate::specs::Kept::kept_space))]
     fn load(&mut self, va: u32, width: Width) -> Result<u32, Fault> {
         self.loaded(va, width)
     }
 
-    #[tactic(auto, unfolding(crate::specs::Kept::kept_space, ow_base::specs::Pages::page_space))]
+    #[tactic(auto, unfolding(crate::specs::Kept::kept_space))]
     fn store(&mut self, va: u32, width: Width, value: u32) -> Result<(), Fault> {
         self.store_value(va, width, value)
     }

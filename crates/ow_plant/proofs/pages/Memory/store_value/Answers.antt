@@ -1,6 +1,6 @@
 use Rattle.std.proofs.Common.{◌≡◌, ℕ, ◌+◌, ◌-◌, ◌/◌, ◌%◌, ◌<◌, length, slice_get, slice_index, arith, ap, ◌∙◌, sym, refl, Some, Result, Ok}
 use Rattle.std.proofs.lemmas.Option.{slice_get_read}
-use Rattle.ow_base.specs.Pages.{Pages, with_value, stored_in, rights_at}
+use Rattle.ow_base.specs.Pages.{Pages, page_space, with_value, stored_in, rights_at}
 use Rattle.ow_base.specs.declared.machine.Rights.{Rights}
 use Rattle.ow_base.specs.declared.machine.Rights.TheVariants.{Code, Values}
 use Rattle.ow_plant.specs.declared.pages.Frame.{Frame}
@@ -9,6 +9,7 @@ use Rattle.ow_plant.proofs.Stores.{stored}
 use Rattle.ow_plant.proofs.pages.Memory.store_value.Goals as goal
 
 pub returns-clause-ok : goal.returns-clause-ok
+unfolding page_space
 returns-clause-ok c =
     let s : PageStore = record { frames = c.self.inside.frames.items; used = c.self.inside.used; table = c.self.inside.table.items } in
     let k : ℕ = c.place_of-place.result - 1 in
