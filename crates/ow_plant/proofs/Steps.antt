@@ -62,7 +62,7 @@ acts kept word regs pc (Loads width signed rd address) =
     choose kept.store (is_aligned address (size_of width)) _ _ _ _ (loaded kept regs pc rd width signed (page_space.loaded kept.pages address width)) refl
 acts kept word regs pc (Stores width address value) =
     choose kept.store (is_aligned address (size_of width)) _ _ _ _
-        (stored kept.store _ regs pc (page_space.stored kept.pages address width value) (after kept.store address width value)) refl
+    (stored kept.store _ regs pc (page_space.stored kept.pages address width value) (after kept.store address width value)) refl
 acts kept word regs pc Nothing = (refl, same kept.store)
 acts kept word regs pc Calls = refl
 acts kept word regs pc Breaks = refl

@@ -24,15 +24,15 @@ module _ (old : PlantState) (going : old.slice < old.shape.quantum) where
   as_step new result step known holds =
       let test : nat_lt old.slice old.shape.quantum ≡ true = grind (arith, nat_tests) in
       let steps : StepsAs old new result (user_step page_space old.bank.regs old.bank.pc (pages_of old.pages)) =
-          subst (λ (s : Stepped Pages). StepsAs old new result s) known holds in
+      subst (λ (s : Stepped Pages). StepsAs old new result s) known holds in
       subst (λ (b : Bool). MatchBool b (StepsAs old new result (user_step page_space old.bank.regs old.bank.pc (pages_of old.pages)))
-          ((result ≡ end.Slice) × (new ≡ old))) (sym test) steps
+      ((result ≡ end.Slice) × (new ≡ old))) (sym test) steps
 
   pub next_turn : (regs : List ℕ) (pc : ℕ) (store : PageStore) → Next regs pc (kept_of store) ≡ user_step kept_space old.bank.regs old.bank.pc (kept_of old.pages)
       → TakesUserTurn old (record old { pages = store; bank = record { pc = pc; regs = regs }; slice = old.slice + 1; steps = risen old.steps }) end.Next
   next_turn regs pc store known =
       let came : StepsWith old.pages (Next regs pc (kept_of store)) (user_step page_space old.bank.regs old.bank.pc (pages_of old.pages)) =
-          came_to old.pages old.bank.regs old.bank.pc (Next regs pc (kept_of store)) known in
+      came_to old.pages old.bank.regs old.bank.pc (Next regs pc (kept_of store)) known in
       as_step _ end.Next (Next regs pc (pages_of store)) came.0 (refl, refl, came.1.count, refl)
 
   pub call_turn : Call ≡ user_step kept_space old.bank.regs old.bank.pc (kept_of old.pages) → TakesUserTurn old old end.Call

@@ -25,7 +25,7 @@ written_bytes bytes o Word v =
 
 abbrev pub store_by : PageStore → (address : ℕ) → Width → (value : ℕ) → Option Frame → PageStore
 store_by store a width value (Some frame) = record store {
-  frames = slice_set store.frames (slice_index store.table (a / 4096) - 1) (record frame { bytes = written_bytes frame.bytes (a % 4096) width value })
+  frames = slice_set store.frames (slice_index store.table (a / 4096) - 1) (record frame { bytes = written_bytes frame.bytes (a % 4096) width value });
 }
 store_by store a width value None = store
 

@@ -3,12 +3,12 @@ ghost use Rattle.std.specs.Prelude.{◌≡◌, ℕ, ◌+◌, ◌*◌, ◌^◌, �
 ghost use Rattle.ow_base.specs.Pages.{with_page, rights_at};
 ghost use Rattle.ow_plant.specs.State.{IsReady, TakesUserTurn, pages_of, placed_count, rights_of, returned_to, entered, with_put, tty_of};
 
+use crate::UserEnd;
 use crate::displays::Display;
 use crate::pages::Memory;
 use crate::terminals::Tty;
-use crate::UserEnd;
 use ow_base::{Bank, Came, KeyByte, PanicRecord, Panicked, Point, Regs, Shape};
-use rv32_user::{step, StepEnd};
+use rv32_user::{StepEnd, step};
 use std::alloc::{AllocError, Global};
 use std::marker::Model;
 

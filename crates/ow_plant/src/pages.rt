@@ -145,12 +145,8 @@ impl Memory {
     #[tactic(auto, unfolding(ow_base::specs::Pages::page_space, crate::specs::State::pages_of, crate::specs::State::frame_of, crate::specs::State::frame_at, crate::specs::Kept::store_after))]
     pub(crate) fn store_value(&mut self, addr: u32, width: Width, value: u32) -> Result<(), Fault>
         requires { addr % size_of width ≡ 0 }
-        ensures ok {
-            OnOk result (page_space.stored (pages_of self.old) addr width value ≡ Ok (pages_of self.new))
-        }
-        ensures err {
-            IfErr result (λ fault. page_space.stored (pages_of self.old) addr width value ≡ Err fault)
-        }
+        ensures ok { OnOk result (page_space.stored (pages_of self.old) addr width value ≡ Ok (pages_of self.new)) }
+        ensures err { IfErr result (λ fault. page_space.stored (pages_of self.old) addr width value ≡ Err fault) }
         ensures frames { OnOk result (self.new ≡ store_after self.old addr width value) }
         ensures same { OnErr result (self.new ≡ self.old) }
     {

@@ -1,6 +1,7 @@
+use crate::UserEnd;
 use crate::displays::Display;
 use crate::machine::Plant;
-use ow_base::Shape;
+use ow_base::{Bank, Came, Regs, Shape};
 use std::test::Fail;
 
 /// Bytes, written so often, where the cursor is then, and a byte that is seen at a row and a column.
@@ -166,5 +167,36 @@ fn writes_on_terminals(rt: HostRuntime) -> Result<(), Fail> {
     assert_eq!(rt; plant.tape(1), b"A".as_slice());
     assert!(rt; plant.tape(0).is_empty());
     assert_eq!(rt; plant.display(1).at(), (0, 1));
+    Ok(())
+}
+
+#[test]
+fn steps_a_program(rt: HostRuntime) -> Result<(), Fail> {
+    let mut plant = Plant::new(rt.alloc());
+    plant.arm(rt.alloc(), SHAPE, &[], &[], &[])?;
+    let mut code = [0; 1024];
+    code[0] = 0x0070_0513; // addi a0, x0, 7
+    code[1] = 0x0000_0073; // ecall
+    plant.place(0, false, &code);
+    let start = Bank {
+        pc: 0,
+        regs: Regs::new(),
+    };
+    plant.to_user(1, &start, 0);
+    assert_eq!(rt; plant.user_step(), UserEnd::Next);
+    assert_eq!(rt; plant.user_step(), UserEnd::Slice);
+    let bank = *plant.bank();
+    assert_eq!(rt; (bank.pc, bank.regs.get(10)), (4, 7));
+    plant.to_user(1, &bank, 0);
+    assert_eq!(rt; plant.user_step(), UserEnd::Call);
+    assert_eq!(rt; (plant.steps(), plant.traps(), plant.user_pid()), (1, 0, 1));
+    plant.enter(Came::Call, 1);
+    assert_eq!(rt;
+        (plant.steps(), plant.traps(), plant.in_user()),
+        (2, 1, false)
+    );
+    plant.enter(Came::Closing, 0);
+    assert_eq!(rt; (plant.steps(), plant.traps()), (2, 2));
+    assert!(rt; plant.leave().is_ok());
     Ok(())
 }

@@ -14,7 +14,7 @@ invariant_of-self c = λ armed.
 pub returns-in-Next : goal.returns-in-Next
 returns-in-Next c =
     rw (← c.self.view_is, c.saturating_add-self-inside.ensures)
-        (next_turn (the_view c.self.inside) c.if-self.false c.step.new.regs c.step.new.pc c.step.new.space c.in-Next.ensures.exact)
+    (next_turn (the_view c.self.inside) c.if-self.false c.step.new.regs c.step.new.pc c.step.new.space c.in-Next.ensures.exact)
 
 pub returns-in-Call : goal.returns-in-Call
 returns-in-Call c =
