@@ -1,6 +1,6 @@
 -- The fields of a word in each format, and the word of its fields.
-use Rattle.std.proofs.Common.{◌≡◌, ℕ, ◌+◌, ◌*◌, ◌/◌, ◌%◌, ◌^◌, ◌<◌, ◌∙◌, ap, arith}
-use Rattle.ow_base.specs.Words.{bits, wrapped, sign_extended}
+use Rattle.std.proofs.Common.{◌≡◌, ℕ, ◌+◌, ◌*◌, ◌%◌, ◌^◌, ◌<◌, ◌∙◌, ap, arith}
+use Rattle.ow_base.specs.Words.{bits, sign_extended}
 use Rattle.ow_base.specs.UserStep.{i_immediate, s_immediate, b_immediate, j_immediate}
 use Rattle.rv32_isa.specs.Fields.{IsSigned, IsEvenSigned}
 use Rattle.rv32_isa.specs.Table.{r_word, i_word, s_word, b_word, u_word, j_word}

@@ -1,8 +1,8 @@
 -- The row of a word, its word, and what it does.
-use Rattle.std.proofs.Common.{◌≡◌, ℕ, ◌+◌, ◌*◌, ◌/◌, ◌%◌, ◌^◌, ◌<◌, ◌∙◌, ap, sym, refl, arith, Bool, true, false, nat_eq, ◌==◌, if◌then◌else◌, Option, Some, None, List, IfSome, IfNone}
+use Rattle.std.proofs.Common.{◌≡◌, ℕ, ◌+◌, ◌^◌, ◌<◌, ◌∙◌, ap, sym, refl, arith, Bool, true, false, ◌==◌, if◌then◌else◌, Option, Some, None, List, IfSome, IfNone}
 use Rattle.std.proofs.lemmas.Bool.{eqb-false, eqb-true}
 use Rattle.ow_base.specs.Words.{bits, wrapped}
-use Rattle.ow_base.specs.UserStep.{i_immediate, s_immediate, b_immediate, j_immediate, u_immediate, register, Act, Sets, Jumps, Nothing, Calls, Breaks, Illegal, act_of, immediate_act, register_act, branch_act, load_act, store_act, system_act}
+use Rattle.ow_base.specs.UserStep.{i_immediate, s_immediate, b_immediate, j_immediate, register, Act, Illegal, act_of, immediate_act, register_act, branch_act, load_act, store_act, system_act}
 use Rattle.rv32_isa.specs.declared.instr.Instr.{Instr}
 use Rattle.rv32_isa.specs.declared.instr.Instr.TheVariants.{Lui, Auipc, Jal, Jalr, Beq, Bne, Blt, Bge, Bltu, Bgeu, Lb, Lh, Lw, Lbu, Lhu, Sb, Sh, Sw, Addi, Slti, Sltiu, Xori, Ori, Andi, Slli, Srli, Srai, Add, Sub, Sll, Slt, Sltu, Xor, Srl, Sra, Or, And, Fence, Ecall, Ebreak}
 use Rattle.rv32_isa.specs.Fields.{IsSigned, IsEvenSigned}

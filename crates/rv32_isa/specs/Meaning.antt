@@ -1,6 +1,5 @@
 -- What each instruction tells the processor to do, its operands read (manual, sections 2.4 to 2.8).
-use Rattle.std.specs.Prelude.{ℕ, ◌+◌, ◌-◌, ◌*◌, ◌/◌, ◌%◌, ◌^◌, Bool, true, false, nat_lt, ◌==◌, not, List, bit_and, bit_or, bit_xor, Option, Some, None}
-use Rattle.ow_base.specs.declared.machine.Width.{Width}
+use Rattle.std.specs.Prelude.{ℕ, ◌+◌, ◌-◌, ◌*◌, ◌/◌, ◌%◌, ◌^◌, true, false, nat_lt, ◌==◌, not, List, bit_and, bit_or, bit_xor, Option, Some, None}
 use Rattle.ow_base.specs.declared.machine.Width.TheVariants.{Byte, Half, Word}
 use Rattle.ow_base.specs.Words.{wrapped}
 use Rattle.ow_base.specs.UserStep.{Act, Sets, Jumps, Branches, Loads, Stores, Nothing, Calls, Breaks, Illegal, register, signed_lt, one_if, shifted_left, shifted_right, shifted_right_signed}

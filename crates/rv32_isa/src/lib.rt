@@ -6,6 +6,8 @@ mod encoding;
 mod fields;
 mod instr;
 mod laws;
+#[cfg(test)]
+mod tests;
 
 pub use decoding::decode;
 pub use encoding::encode;

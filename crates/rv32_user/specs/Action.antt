@@ -8,8 +8,8 @@ abbrev pub act_value : Action → Act
 act_value (Set rd value) = Sets rd value
 act_value (Jump rd target) = Jumps rd target
 act_value (Branch taken target) = Branches taken target
-act_value (Load width signed rd address) = Loads width signed rd address
-act_value (Store width address value) = Stores width address value
+act_value (Load l) = Loads l.width l.signed l.rd l.address
+act_value (Store s) = Stores s.width s.address s.value
 act_value Fence = Nothing
 act_value Call = Calls
 act_value Break = Breaks

@@ -7,7 +7,9 @@ mod alignment;
 mod computation;
 mod space;
 mod stepping;
+#[cfg(test)]
+mod tests;
 
 pub use ow_base::{Fault, Regs, Width};
 pub use space::Space;
-pub use stepping::{step, StepEnd};
+pub use stepping::{StepEnd, step};

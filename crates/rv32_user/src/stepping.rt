@@ -1,15 +1,14 @@
 ghost use Rattle.std.specs.Prelude.{◌≡◌, ◌+◌, ℕ, List};
 ghost use Rattle.ow_base.specs.Words.{wrapped};
-ghost use Rattle.ow_base.specs.UserStep.{user_step, acted, fault_at, Loads, Stores};
+ghost use Rattle.ow_base.specs.UserStep.{user_step, acted, fault_at};
 ghost use Rattle.rv32_user.specs.Action.{act_value};
 ghost use Rattle.rv32_user.specs.Step.{ends, UnlessNext};
 
-use ow_base::{Fault, Regs, Width};
-use rv32_isa::{decode, Register};
-
-use crate::action::{action_of, Action};
+use crate::action::{Action, Load, Store, action_of};
 use crate::alignment::{extended, is_aligned};
 use crate::space::Space;
+use ow_base::{Fault, Regs, Width};
+use rv32_isa::decode;
 
 /// How a step ends.
 #[derive(Clone, Copy, Debug, PartialEq, Eq)]
@@ -24,9 +23,13 @@ pub enum StepEnd {
 
 // The causes of faults that a step raises itself (manual, volume II, the table of causes).
 const MISALIGNED_FETCH: u32 = 0;
+
 const ILLEGAL: u32 = 2;
+
 const BREAKPOINT: u32 = 3;
+
 const MISALIGNED_LOAD: u32 = 4;
+
 const MISALIGNED_STORE: u32 = 6;
 
 /// Executes the instruction at `pc`. The end is Next where it is done, and registers, `pc` and space are
@@ -37,10 +40,8 @@ const MISALIGNED_STORE: u32 = 6;
 /// space is asked, and where the space raises one.
 #[tactic(auto, unfolding(ow_base::specs::UserStep::user_step, ow_base::specs::UserStep::after_fetch, ow_base::specs::UserStep::acted))]
 pub fn step<S: Space>(regs: &mut Regs, pc: &mut u32, space: &mut S) -> StepEnd
-    ensures exact {
-        ends result regs.new pc.new (S.image space.new)
-            ≡ user_step S.space regs.old pc.old (S.image space.old)
-    }
+    ensures exact { ends result regs.new pc.new (S.image space.new)
+        ≡ user_step S.space regs.old pc.old (S.image space.old) }
     ensures regs { UnlessNext result (regs.new ≡ regs.old) }
     ensures pc { UnlessNext result (pc.new ≡ pc.old) }
     ensures image { UnlessNext result (S.image space.new ≡ S.image space.old) }
@@ -61,10 +62,8 @@ pub fn step<S: Space>(regs: &mut Regs, pc: &mut u32, space: &mut S) -> StepEnd
 // Does what an instruction tells the processor to do.
 #[tactic(auto, unfolding(ow_base::specs::UserStep::acted, ow_base::specs::UserStep::gone_to))]
 fn perform<S: Space>(action: Action, regs: &mut Regs, pc: &mut u32, space: &mut S) -> StepEnd
-    ensures exact {
-        (word : ℕ) → ends result regs.new pc.new (S.image space.new)
-            ≡ acted S.space word regs.old pc.old (S.image space.old) (act_value action)
-    }
+    ensures exact { (word : ℕ) → ends result regs.new pc.new (S.image space.new)
+        ≡ acted S.space word regs.old pc.old (S.image space.old) (act_value action) }
     ensures regs { UnlessNext result (regs.new ≡ regs.old) }
     ensures pc { UnlessNext result (pc.new ≡ pc.old) }
     ensures image { UnlessNext result (S.image space.new ≡ S.image space.old) }
@@ -92,10 +91,8 @@ fn perform<S: Space>(action: Action, regs: &mut Regs, pc: &mut u32, space: &mut 
             *pc = target;
             StepEnd::Next
         }
-        Action::Load { width, signed, rd, address } => {
-            load(regs, pc, space, width, signed, rd, address)
-        }
-        Action::Store { width, address, value } => store(pc, space, width, address, value),
+        Action::Load(task) => load(regs, pc, space, task),
+        Action::Store(task) => store(pc, space, task),
         Action::Fence => advance(pc),
         Action::Call => StepEnd::Call,
         Action::Break => fault(BREAKPOINT, *pc),
@@ -104,29 +101,20 @@ fn perform<S: Space>(action: Action, regs: &mut Regs, pc: &mut u32, space: &mut 
 
 // Loads into a register. The address is tested before the space is asked.
 #[tactic(auto, unfolding(ow_base::specs::UserStep::acted, ow_base::specs::UserStep::after_load))]
-fn load<S: Space>(
-    regs: &mut Regs,
-    pc: &mut u32,
-    space: &mut S,
-    width: Width,
-    signed: bool,
-    rd: Register,
-    address: u32,
-) -> StepEnd
-    ensures exact {
-        (word : ℕ) → ends result regs.new pc.new (S.image space.new)
-            ≡ acted S.space word regs.old pc.old (S.image space.old) (Loads width signed rd address)
-    }
+fn load<S: Space>(regs: &mut Regs, pc: &mut u32, space: &mut S, task: Load) -> StepEnd
+    ensures exact { (word : ℕ) → ends result regs.new pc.new (S.image space.new)
+        ≡ acted S.space word regs.old pc.old (S.image space.old) (act_value (Action.Load task)) }
     ensures regs { UnlessNext result (regs.new ≡ regs.old) }
     ensures pc { UnlessNext result (pc.new ≡ pc.old) }
     ensures image { S.image space.new ≡ S.image space.old }
 {
-    if !is_aligned(address, width) {
-        return fault(MISALIGNED_LOAD, address);
+    if !is_aligned(task.address, task.width) {
+        return fault(MISALIGNED_LOAD, task.address);
     }
-    match space.load(address, width) {
+    match space.load(task.address, task.width) {
         Ok(value) => {
-            regs.set(rd.number(), extended(width, signed, value));
+            let value = extended(task.width, task.signed, value);
+            regs.set(task.rd.number(), value);
             advance(pc)
         }
         Err(fault) => StepEnd::Fault(fault),
@@ -135,24 +123,16 @@ fn load<S: Space>(
 
 // Stores a value. The address is tested before the space is asked.
 #[tactic(auto, unfolding(ow_base::specs::UserStep::acted, ow_base::specs::UserStep::after_store))]
-fn store<S: Space>(
-    pc: &mut u32,
-    space: &mut S,
-    width: Width,
-    address: u32,
-    value: u32,
-) -> StepEnd
-    ensures exact {
-        (word : ℕ) (regs : List ℕ) → ends result regs pc.new (S.image space.new)
-            ≡ acted S.space word regs pc.old (S.image space.old) (Stores width address value)
-    }
+fn store<S: Space>(pc: &mut u32, space: &mut S, task: Store) -> StepEnd
+    ensures exact { (word : ℕ) (regs : List ℕ) → ends result regs pc.new (S.image space.new)
+        ≡ acted S.space word regs pc.old (S.image space.old) (act_value (Action.Store task)) }
     ensures pc { UnlessNext result (pc.new ≡ pc.old) }
     ensures image { UnlessNext result (S.image space.new ≡ S.image space.old) }
 {
-    if !is_aligned(address, width) {
-        return fault(MISALIGNED_STORE, address);
+    if !is_aligned(task.address, task.width) {
+        return fault(MISALIGNED_STORE, task.address);
     }
-    match space.store(address, width, value) {
+    match space.store(task.address, task.width, task.value) {
         Ok(()) => advance(pc),
         Err(fault) => StepEnd::Fault(fault),
     }

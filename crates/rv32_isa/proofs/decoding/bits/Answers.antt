@@ -1,5 +1,5 @@
 -- The mask is 2 ^ count - 1, and it keeps the remainder.
-use Rattle.std.proofs.Common.{arith, ◌≡◌, ◌%◌, ◌*◌, ◌^◌}
+use Rattle.std.proofs.Common.{◌≡◌, ◌%◌, ◌*◌, ◌^◌}
 use Rattle.std.proofs.lemmas.Nat.{one_shl, and_mask}
 use Rattle.rv32_isa.proofs.decoding.bits.Goals as goal
 
