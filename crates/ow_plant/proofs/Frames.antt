@@ -1,5 +1,5 @@
 -- What frames and a table stand for.
-use Rattle.std.proofs.Common.{◌≡◌, ◌≢◌, ℕ, zero, suc, ◌+◌, ◌-◌, ◌*◌, ◌/◌, ◌%◌, ◌^◌, ◌<◌, ◌≤◌, List, [], ◌∷◌, length, set, slice_index, slice_get, Some, None, refl, sym, ap, ◌∙◌, arith}
+use Rattle.std.proofs.Common.{◌≡◌, ℕ, ◌+◌, ◌/◌, ◌%◌, ◌<◌, slice_index, Some, ap, ◌∙◌, arith}
 use Rattle.ow_base.specs.Pages.{value_at}
 use Rattle.ow_base.specs.UserStep.{size_of}
 use Rattle.ow_base.specs.declared.machine.Width.{Width}

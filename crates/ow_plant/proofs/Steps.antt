@@ -1,7 +1,7 @@
 -- A step of a program on memory is a step on its pages, and keeps how many of them are placed.
-use Rattle.std.proofs.Common.{◌≡◌, ℕ, ◌/◌, Bool, true, false, List, length, Option, Some, None, Result, Ok, Err, refl, sym, ap, ◌∙◌, if◌then◌else◌, length-set}
+use Rattle.std.proofs.Common.{◌≡◌, ℕ, ◌/◌, Bool, true, false, List, length, Option, Some, None, Result, Ok, Err, refl, if◌then◌else◌, length-set}
 use Rattle.ow_base.specs.Pages.{Pages, page_space}
-use Rattle.ow_base.specs.UserStep.{Act, Sets, Jumps, Branches, Loads, Stores, Nothing, Calls, Breaks, Illegal, Spaces, Stepped, Next, Call, Faulted, is_aligned, size_of, fault_at, act_of, gone_to, after_load, after_store, acted, after_fetch, user_step}
+use Rattle.ow_base.specs.UserStep.{Act, Sets, Jumps, Branches, Loads, Stores, Nothing, Calls, Breaks, Illegal, Stepped, Next, Call, Faulted, is_aligned, size_of, act_of, gone_to, after_load, after_store, acted, after_fetch, user_step}
 use Rattle.ow_base.specs.declared.machine.Fault.{Fault}
 use Rattle.ow_base.specs.declared.machine.Width.{Width}
 use Rattle.ow_plant.specs.declared.pages.Frame.{Frame}

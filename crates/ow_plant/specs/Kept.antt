@@ -1,5 +1,5 @@
 -- Memory as a program's steps see it.
-use Rattle.std.specs.Prelude.{◌≡◌, ℕ, ◌+◌, ◌-◌, ◌/◌, ◌%◌, List, length, slice_index, slice_set, Option, Some, None, Result, Ok, Err}
+use Rattle.std.specs.Prelude.{ℕ, ◌+◌, ◌-◌, ◌/◌, ◌%◌, List, slice_index, slice_set, Option, Some, None, Result, Ok, Err}
 use Rattle.ow_base.specs.Pages.{Pages, page_space}
 use Rattle.ow_base.specs.UserStep.{Spaces}
 use Rattle.ow_base.specs.declared.machine.Fault.{Fault}

@@ -1,10 +1,9 @@
 -- What contracts see of the plant.
-use Rattle.std.specs.Prelude.{◌≡◌, ℕ, ◌+◌, ◌-◌, ◌*◌, ◌/◌, ◌%◌, ◌^◌, ◌<◌, ◌≤◌, min, Bool, true, false, MatchBool, nat_lt, ◌==◌, if◌then◌else◌, List, [], ◌∷◌, ◌++◌, replicate, length, slice_get, slice_index, option_map, Option, Some, None}
+use Rattle.std.specs.Prelude.{◌≡◌, ℕ, ◌+◌, ◌-◌, ◌*◌, ◌/◌, ◌%◌, ◌^◌, ◌<◌, ◌≤◌, min, Bool, true, false, MatchBool, nat_lt, ◌==◌, if◌then◌else◌, List, [], ◌∷◌, ◌++◌, length, slice_get, slice_index, Option, Some, None}
 use Rattle.ow_base.specs.Screen.{Screen, blank_screen, drawn}
-use Rattle.ow_base.specs.Pages.{Pages, no_pages, page_space, rights_at}
+use Rattle.ow_base.specs.Pages.{Pages, no_pages, page_space}
 use Rattle.ow_base.specs.UserStep.{Stepped, Next, Call, Faulted, user_step}
 use Rattle.ow_base.specs.declared.machine.Bank.{Bank}
-use Rattle.ow_base.specs.declared.machine.Fault.{Fault}
 use Rattle.ow_base.specs.declared.machine.Rights.{Rights}
 use Rattle.ow_base.specs.declared.machine.Rights.TheVariants.{Code, Values}
 use Rattle.ow_base.specs.declared.machine.Shape.{Shape}

@@ -45,7 +45,7 @@ impl Display {
         requires { r < 24 }
         ensures row { result.now ≡ slice_index_or self.now.rows r [] }
         ensures width { length result.now ≡ 80 }
-        ensures height { length self.now.rows ≡ 24 }
+        ensures shape { length self.now.rows ≡ 24 }
     {
         &self.rows[r as usize]
     }
@@ -56,6 +56,7 @@ impl Display {
         ensures col { result.1 ≡ self.now.col }
         ensures row_fits { self.now.row < 24 }
         ensures col_fits { self.now.col < 80 }
+        ensures shape { length self.now.rows ≡ 24 }
     {
         (self.row, self.col)
     }

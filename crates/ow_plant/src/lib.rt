@@ -1,4 +1,5 @@
-//! The machine.
+//! The machine that a kernel runs on: pages of memory, two terminals, a processor in user mode, and counts
+//! of steps and traps. It has no disk yet, nothing is typed, and no panic comes.
 #![tactic(auto)]
 
 mod displays;

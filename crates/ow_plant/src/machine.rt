@@ -142,7 +142,7 @@ impl Plant {
 
     /// The byte at an address of the program, or `None` where it has no page.
     pub fn user_byte(&self, addr: u32) -> Option<u8>
-        requires { self.now.armed ≡ true }
+        requires armed { self.now.armed ≡ true }
         ensures none { IsNone result ↔ (rights_at (pages_of self.now.pages) addr ≡ None) }
         ensures some { IfSome result (λ b. b ≡ (pages_of self.now.pages).bytes addr) }
     {
@@ -164,7 +164,7 @@ impl Plant {
 
     /// Whether the processor is in user mode.
     pub fn in_user(&self) -> bool
-        requires { self.now.armed ≡ true }
+        requires armed { self.now.armed ≡ true }
         ensures { result ≡ self.now.in_user }
     {
         self.in_user
@@ -172,7 +172,7 @@ impl Plant {
 
     /// The registers and the pc.
     pub fn bank(&self) -> &Bank
-        requires { self.now.armed ≡ true }
+        requires armed { self.now.armed ≡ true }
         ensures { result.now ≡ self.now.bank }
     {
         &self.bank
@@ -180,7 +180,7 @@ impl Plant {
 
     /// The process that control went to last.
     pub fn user_pid(&self) -> u32
-        requires { self.now.armed ≡ true }
+        requires armed { self.now.armed ≡ true }
         ensures { result ≡ self.now.user_pid }
     {
         self.user_pid
@@ -188,7 +188,7 @@ impl Plant {
 
     /// The steps made. The count stops at its last value.
     pub fn steps(&self) -> u32
-        requires { self.now.armed ≡ true }
+        requires armed { self.now.armed ≡ true }
         ensures { result ≡ self.now.steps }
     {
         self.steps
@@ -196,7 +196,7 @@ impl Plant {
 
     /// The traps begun. The count stops at its last value.
     pub fn traps(&self) -> u32
-        requires { self.now.armed ≡ true }
+        requires armed { self.now.armed ≡ true }
         ensures { result ≡ self.now.traps }
     {
         self.traps
@@ -225,7 +225,7 @@ impl Plant {
 
     /// Begins a trap, which counts a step unless it is the closing one.
     pub fn enter(&mut self, came: Came, pid: u32)
-        requires { self.old.armed ≡ true }
+        requires armed { self.old.armed ≡ true }
         ensures { self.new ≡ entered self.old came }
     {
         self.in_user = false;
@@ -238,7 +238,7 @@ impl Plant {
 
     /// Ends the kernel's work for a trap. No panic is armed yet, so it always succeeds.
     pub fn leave(&mut self) -> Result<(), Panicked>
-        requires { self.old.armed ≡ true }
+        requires armed { self.old.armed ≡ true }
         ensures ok { IsOk result }
         ensures same { self.new ≡ self.old }
     {

@@ -10,6 +10,7 @@ use ow_base::{Fault, Rights, Width};
 use std::alloc::{AllocError, Global};
 use std::marker::Model;
 
+/// The pages that addresses of 32 bits have.
 const TABLE_LENGTH: usize = 1 << 20;
 
 /// A frame of 4,096 bytes, and what a program may do with the page in it.
@@ -19,7 +20,7 @@ pub struct Frame {
     pub bytes: [u8; 4096],
 }
 
-/// Frames of memory, and a table of 2^20 entries from a page's number to its frame's place.
+/// Frames of memory, and a table of 1,048,576 entries from a page's number to its frame's place.
 ///
 /// An entry is 0 for a page that is not there, and else the frame's index plus one. So a read and a
 /// write cost the same however many pages there are.
@@ -204,7 +205,8 @@ fn value_in(bytes: &[u8; 4096], offset: u32, width: Width) -> u32
 fn put_value(bytes: &mut [u8; 4096], offset: u32, width: Width, value: u32)
     requires { offset + size_of width ≤ 4096 }
     ensures bytes { bytes.new ≡ written_bytes bytes.old offset width value }
-    ensures each { (j : ℕ) → slice_index bytes.new j ≡ with_value (λ i. slice_index bytes.old i) offset width value j }
+    ensures each { (j : ℕ) → slice_index bytes.new j
+        ≡ with_value (λ i. slice_index bytes.old i) offset width value j }
 {
     let at = offset as usize;
     match width {
@@ -244,6 +246,7 @@ fn fill(bytes: &mut [u8; 4096], words: &[u32; 1024])
     }
 }
 
+/// The rights to a page of values that can be written, or to one of code.
 fn rights_for(writable: bool) -> Rights
     ensures { result ≡ rights_of writable }
 {
@@ -254,6 +257,7 @@ fn rights_for(writable: bool) -> Rights
     }
 }
 
+/// So many zeros.
 fn zeros(alloc: Global, count: usize) -> Result<Vec<u16>, AllocError>
     ensures long { IfOk result (λ v. vec_len v ≡ count) }
     ensures zero { IfOk result (λ v. (k : ℕ) → slice_index v.items k ≡ 0) }

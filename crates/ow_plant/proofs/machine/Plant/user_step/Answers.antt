@@ -1,8 +1,7 @@
-use Rattle.std.proofs.Common.{◌≡◌, ℕ, ◌<◌, length, arith, ap, sym, ◌∙◌, subst}
-use Rattle.ow_plant.specs.State.{PageStore, PlantState, TakesUserTurn}
+use Rattle.std.proofs.Common.{◌≡◌, ap, ◌∙◌}
+use Rattle.ow_plant.specs.State.{PlantState}
 use Rattle.ow_plant.specs.Kept.{Kept}
 use Rattle.ow_plant.specs.contracts.machine.Plant.{the_view}
-use Rattle.ow_plant.specs.declared.UserEnd.TheVariants as end
 use Rattle.ow_plant.proofs.Turns.{next_turn, call_turn, fault_turn, same_size, unchanged}
 use Rattle.ow_plant.proofs.machine.Plant.user_step.Goals as goal
 

@@ -1,5 +1,5 @@
-use Rattle.std.proofs.Common.{◌≡◌, ℕ, ◌+◌, ◌/◌, ◌%◌, ◌<◌, length, arith, ap, ◌∙◌, sym, subst}
-use Rattle.ow_base.specs.Pages.{Pages, with_page}
+use Rattle.std.proofs.Common.{◌<◌, length, ap, ◌∙◌, sym, subst}
+use Rattle.ow_base.specs.Pages.{with_page}
 use Rattle.ow_plant.specs.declared.pages.Frame.{Frame}
 use Rattle.ow_plant.specs.State.{PageStore, pages_of, rights_of}
 use Rattle.ow_plant.proofs.Stores.{placed}

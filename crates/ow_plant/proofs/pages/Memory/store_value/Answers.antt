@@ -1,10 +1,8 @@
-use Rattle.std.proofs.Common.{◌≡◌, ℕ, ◌+◌, ◌-◌, ◌/◌, ◌%◌, ◌<◌, length, slice_get, slice_index, arith, ap, ◌∙◌, sym, refl, Some, Result, Ok}
+use Rattle.std.proofs.Common.{◌≡◌, ℕ, ◌+◌, ◌-◌, ◌/◌, ◌<◌, length, slice_get, slice_index, arith, ap, ◌∙◌, sym, refl, Some}
 use Rattle.std.proofs.lemmas.Option.{slice_get_read}
-use Rattle.ow_base.specs.Pages.{Pages, page_space, with_value, stored_in, rights_at}
-use Rattle.ow_base.specs.declared.machine.Rights.{Rights}
-use Rattle.ow_base.specs.declared.machine.Rights.TheVariants.{Code, Values}
+use Rattle.ow_base.specs.Pages.{page_space, stored_in, rights_at}
 use Rattle.ow_plant.specs.declared.pages.Frame.{Frame}
-use Rattle.ow_plant.specs.State.{PageStore, pages_of, rights_of}
+use Rattle.ow_plant.specs.State.{PageStore, pages_of}
 use Rattle.ow_plant.proofs.Stores.{stored}
 use Rattle.ow_plant.proofs.pages.Memory.store_value.Goals as goal
 
