@@ -13,6 +13,7 @@ pub record Kept : Type 0 where
   pub pages : Pages
   pub store : PageStore
 
+-- what a step sees of memory
 abbrev pub kept_of : PageStore → Kept
 kept_of store = record { pages = pages_of store; store = store }
 
@@ -23,6 +24,7 @@ written_bytes bytes o Half v = slice_set (slice_set bytes o (v % 256)) (o + 1) (
 written_bytes bytes o Word v =
     slice_set (slice_set (slice_set (slice_set bytes o (v % 256)) (o + 1) (v / 256 % 256)) (o + 2) (v / 65536 % 256)) (o + 3) (v / 16777216 % 256)
 
+-- the frames after a value is written in this frame, where there is one
 abbrev pub store_by : PageStore → (address : ℕ) → Width → (value : ℕ) → Option Frame → PageStore
 store_by store a width value (Some frame) = record store {
   frames = slice_set store.frames (slice_index store.table (a / 4096) - 1) (record frame { bytes = written_bytes frame.bytes (a % 4096) width value });
@@ -33,6 +35,7 @@ store_by store a width value None = store
 unfoldable pub store_after : PageStore → (address : ℕ) → Width → (value : ℕ) → PageStore
 store_after store a width value = store_by store a width value (frame_of store (a / 4096))
 
+-- the answer of a store, with the frames after it
 abbrev pub kept_with : PageStore → Result Pages Fault → Result Kept Fault
 kept_with store (Ok pages) = Ok (record { pages = pages; store = store })
 kept_with store (Err fault) = Err fault

@@ -64,6 +64,7 @@ pages_of store = record {
 abbrev pub placed_count : PageStore → ℕ
 placed_count store = store.used
 
+-- what contracts see of a plant
 pub record PlantState : Type 0 where
   pub armed : Bool
   pub shape : Shape
@@ -83,6 +84,7 @@ pub record PlantState : Type 0 where
 abbrev pub risen : ℕ → ℕ
 risen n = min (n + 1) (2 ^ 32 - 1)
 
+-- a terminal on which nothing was written
 abbrev pub silent_terminal : (room : ℕ) → Terminal
 silent_terminal room = record { tape = []; room = room; display = blank_screen }
 
@@ -99,6 +101,7 @@ pub record IsReady (shape : Shape) (s : PlantState) : Type 0 where
   pub no_traps : s.traps ≡ 0
   pub no_history : s.history ≡ []
 
+-- the rights to a page that is placed
 abbrev pub rights_of : (writable : Bool) → Rights
 rights_of true = Values
 rights_of false = Code
@@ -111,6 +114,7 @@ tty_of s tty = if tty == 0 then s.tty0 else s.tty1
 abbrev pub put_on : Terminal → (byte : ℕ) → Terminal
 put_on t byte = record t { tape = t.tape ++ byte ∷ []; display = drawn t.display byte }
 
+-- the plant with a byte put on a terminal
 abbrev pub with_put : PlantState → (tty byte : ℕ) → PlantState
 with_put s tty byte = if tty == 0 then record s { tty0 = put_on s.tty0 byte } else record s { tty1 = put_on s.tty1 byte }
 
