@@ -1,3 +1,4 @@
+-- The lemmas on rows say it.
 use Rattle.rv32_isa.proofs.Rows.{illegal}
 use Rattle.rv32_isa.proofs.laws.others_are_illegal.Goals as goal
 

@@ -1,3 +1,4 @@
+-- A load and a store are proved in functions of their own.
 use Rattle.rv32_user.proofs.stepping.perform.Goals as goal
 
 pub returns-in-Load-clause-exact : goal.returns-in-Load-clause-exact

@@ -1,0 +1,3 @@
+-- The definitions that the plant's contracts cite.
+pub mod State
+pub mod Kept

@@ -1,0 +1,296 @@
+//! The plant: processor, memory and terminals.
+ghost use Rattle.std.specs.Prelude.{◌≡◌, ℕ, ◌+◌, ◌*◌, ◌^◌, ◌<◌, ◌≤◌, ◌↔◌, true, false, [], None, length, IsNone, IsOk, IfSome, OnOk, OnErr};
+ghost use Rattle.ow_base.specs.Pages.{with_page, rights_at};
+ghost use Rattle.ow_plant.specs.State.{IsReady, TakesUserTurn, pages_of, placed_count, rights_of, returned_to, entered, with_put, tty_of};
+
+use crate::UserEnd;
+use crate::displays::Display;
+use crate::pages::Memory;
+use crate::terminals::Tty;
+use ow_base::{Bank, Came, KeyByte, PanicRecord, Panicked, Point, Regs, Shape};
+use rv32_user::{StepEnd, step};
+use std::alloc::{AllocError, Global};
+use std::marker::Model;
+
+/// The machine that a kernel runs on: pages of memory, two terminals, the processor's registers, and
+/// counts of steps and traps.
+///
+/// A plant is made empty by `new` and gets its memory by `arm`; after that no call allocates. Contracts
+/// see it as a `PlantState`.
+#[derive(Drop)]
+pub struct Plant {
+    armed: bool,
+    shape: Shape,
+    memory: Memory,
+    bank: Bank,
+    in_user: bool,
+    user_pid: u32,
+    slice: u32,
+    tty0: Tty,
+    tty1: Tty,
+    steps: u32,
+    traps: u32,
+    history: Vec<PanicRecord>,
+}
+
+impl Model for Plant {
+    ghost use Rattle.std.specs.Prelude.{◌≡◌, true, length};
+    ghost use Rattle.ow_plant.specs.State.{PlantState};
+
+    ghost Value = { PlantState };
+
+    ghost view = { λ p. record {
+      armed = p.armed;
+      shape = p.shape;
+      pages = p.memory;
+      bank = p.bank;
+      in_user = p.in_user;
+      user_pid = p.user_pid;
+      slice = p.slice;
+      tty0 = p.tty0;
+      tty1 = p.tty1;
+      steps = p.steps;
+      traps = p.traps;
+      history = p.history.items;
+    } };
+
+    ghost invariant = { λ p. p.armed ≡ true → length p.memory.frames ≡ p.shape.user_frames };
+}
+
+impl Plant {
+    /// A plant with no memory, which is not armed.
+    pub fn new(alloc: Global) -> Plant
+        ensures idle { result.armed ≡ false }
+        ensures history { result.history ≡ [] }
+    {
+        let shape = Shape {
+            user_frames: 0,
+            sectors: 0,
+            quantum: 0,
+            budget: 0,
+        };
+        let bank = Bank {
+            pc: 0,
+            regs: Regs::new(),
+        };
+        Plant {
+            armed: false,
+            shape,
+            memory: Memory::new(alloc),
+            bank,
+            in_user: false,
+            user_pid: 0,
+            slice: 0,
+            tty0: Tty::new(alloc),
+            tty1: Tty::new(alloc),
+            steps: 0,
+            traps: 0,
+            history: Vec::new(alloc),
+        }
+    }
+
+    /// Makes memory of `user_frames` pages, and two terminals with room for 16 bytes a step of the
+    /// budget. Nothing is typed and no panic is armed yet. For want of memory nothing changes.
+    pub fn arm(
+        &mut self,
+        alloc: Global,
+        shape: Shape,
+        typed0: &[KeyByte],
+        typed1: &[KeyByte],
+        points: &[Point],
+    ) -> Result<(), AllocError>
+        requires idle { self.old.armed ≡ false }
+        requires no_typed0 { typed0.now ≡ [] }
+        requires no_typed1 { typed1.now ≡ [] }
+        requires no_points { points.now ≡ [] }
+        requires frames { shape.user_frames ≤ 384 }
+        requires some_quantum { 1 ≤ shape.quantum }
+        requires quantum { shape.quantum ≤ 10000 }
+        requires budget { shape.budget ≤ 2000000 }
+        ensures ok { OnOk result (IsReady shape self.new) }
+        ensures err { OnErr result (self.new ≡ self.old) }
+    {
+        let room = 16 * shape.budget as usize;
+        let memory = Memory::with_frames(alloc, shape.user_frames as usize)?;
+        let tty0 = Tty::with_room(alloc, room)?;
+        let tty1 = Tty::with_room(alloc, room)?;
+        self.armed = true;
+        self.shape = shape;
+        self.memory = memory;
+        self.in_user = false;
+        self.tty0 = tty0;
+        self.tty1 = tty1;
+        self.steps = 0;
+        self.traps = 0;
+        self.history = Vec::new(alloc);
+        Ok(())
+    }
+
+    /// Puts a page of 1,024 words in the next frame, with code in it or values that can be written.
+    /// A frame must be left, and the page not yet be there.
+    pub fn place(&mut self, page: u32, writable: bool, words: &[u32; 1024])
+        requires armed { self.old.armed ≡ true }
+        requires room { placed_count self.old.pages < self.old.shape.user_frames }
+        requires number { page < 2 ^ 20 }
+        requires new_page { (pages_of self.old.pages).rights page ≡ None }
+        ensures pages { pages_of self.new.pages ≡ with_page (pages_of self.old.pages) page (rights_of writable) words.now }
+        ensures count { placed_count self.new.pages ≡ placed_count self.old.pages + 1 }
+        ensures rest { self.new ≡ record self.old { pages = self.new.pages } }
+    {
+        self.memory.place(page, writable, words);
+    }
+
+    /// The byte at an address of the program, or `None` where it has no page.
+    pub fn user_byte(&self, addr: u32) -> Option<u8>
+        requires armed { self.now.armed ≡ true }
+        ensures none { IsNone result ↔ (rights_at (pages_of self.now.pages) addr ≡ None) }
+        ensures some { IfSome result (λ b. b ≡ (pages_of self.now.pages).bytes addr) }
+    {
+        self.memory.byte(addr)
+    }
+
+    /// Loads the bank of a process, and begins a slice in user mode. There is one space of pages yet, so
+    /// its root is 0.
+    pub fn to_user(&mut self, pid: u32, bank: &Bank, root: u32)
+        requires armed { self.old.armed ≡ true }
+        requires one_space { root ≡ 0 }
+        ensures { self.new ≡ returned_to self.old pid bank.now }
+    {
+        self.bank = *bank;
+        self.in_user = true;
+        self.user_pid = pid;
+        self.slice = 0;
+    }
+
+    /// Whether the processor is in user mode.
+    pub fn in_user(&self) -> bool
+        requires armed { self.now.armed ≡ true }
+        ensures { result ≡ self.now.in_user }
+    {
+        self.in_user
+    }
+
+    /// The registers and the pc.
+    pub fn bank(&self) -> &Bank
+        requires armed { self.now.armed ≡ true }
+        ensures { result.now ≡ self.now.bank }
+    {
+        &self.bank
+    }
+
+    /// The process that control went to last.
+    pub fn user_pid(&self) -> u32
+        requires armed { self.now.armed ≡ true }
+        ensures { result ≡ self.now.user_pid }
+    {
+        self.user_pid
+    }
+
+    /// The steps made. The count stops at its last value.
+    pub fn steps(&self) -> u32
+        requires armed { self.now.armed ≡ true }
+        ensures { result ≡ self.now.steps }
+    {
+        self.steps
+    }
+
+    /// The traps begun. The count stops at its last value.
+    pub fn traps(&self) -> u32
+        requires armed { self.now.armed ≡ true }
+        ensures { result ≡ self.now.traps }
+    {
+        self.traps
+    }
+
+    /// A turn of the process in user mode. After `quantum` instructions its slice is over, and nothing is
+    /// done; else one instruction is made. At a call and at a fault nothing changes.
+    pub fn user_step(&mut self) -> UserEnd
+        requires armed { self.old.armed ≡ true }
+        requires in_user { self.old.in_user ≡ true }
+        ensures { TakesUserTurn self.old self.new result }
+    {
+        if self.slice >= self.shape.quantum {
+            return UserEnd::Slice;
+        }
+        match step(&mut self.bank.regs, &mut self.bank.pc, &mut self.memory) {
+            StepEnd::Next => {
+                self.slice += 1;
+                self.steps = self.steps.saturating_add(1);
+                UserEnd::Next
+            }
+            StepEnd::Call => UserEnd::Call,
+            StepEnd::Fault(fault) => UserEnd::Fault(fault),
+        }
+    }
+
+    /// Begins a trap, which counts a step unless it is the closing one.
+    pub fn enter(&mut self, came: Came, pid: u32)
+        requires armed { self.old.armed ≡ true }
+        ensures { self.new ≡ entered self.old came }
+    {
+        self.in_user = false;
+        self.traps = self.traps.saturating_add(1);
+        match came {
+            Came::Closing => {}
+            Came::Kernel | Came::User | Came::Call => self.steps = self.steps.saturating_add(1),
+        }
+    }
+
+    /// Ends the kernel's work for a trap. No panic is armed yet, so it always succeeds.
+    pub fn leave(&mut self) -> Result<(), Panicked>
+        requires armed { self.old.armed ≡ true }
+        ensures ok { IsOk result }
+        ensures same { self.new ≡ self.old }
+    {
+        Ok(())
+    }
+
+    /// Writes a byte on a terminal, 0 or 1, whose tape must have room.
+    pub fn put(&mut self, tty: u32, byte: u8) -> Result<(), Panicked>
+        requires armed { self.old.armed ≡ true }
+        requires which { tty < 2 }
+        requires room { length (tty_of self.old tty).tape < (tty_of self.old tty).room }
+        ensures ok { IsOk result }
+        ensures put { self.new ≡ with_put self.old tty byte }
+    {
+        if tty == 0 {
+            self.tty0.put(byte);
+        } else {
+            self.tty1.put(byte);
+        }
+        Ok(())
+    }
+
+    /// The bytes written on a terminal, 0 or 1.
+    pub fn tape(&self, tty: u32) -> &[u8]
+        requires armed { self.now.armed ≡ true }
+        requires which { tty < 2 }
+        ensures { result.now ≡ (tty_of self.now tty).tape }
+    {
+        if tty == 0 {
+            self.tty0.tape()
+        } else {
+            self.tty1.tape()
+        }
+    }
+
+    /// What is seen of a terminal, 0 or 1.
+    pub fn display(&self, tty: u32) -> &Display
+        requires armed { self.now.armed ≡ true }
+        requires which { tty < 2 }
+        ensures { result.now ≡ (tty_of self.now tty).display }
+    {
+        if tty == 0 {
+            self.tty0.display()
+        } else {
+            self.tty1.display()
+        }
+    }
+
+    /// The panics so far.
+    pub fn history(&self) -> &[PanicRecord]
+        ensures { result.now ≡ self.now.history }
+    {
+        &self.history
+    }
+}

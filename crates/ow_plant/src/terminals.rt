@@ -1,0 +1,75 @@
+//! A terminal: a tape of the bytes written, and a display.
+ghost use Rattle.std.specs.Prelude.{◌≡◌, ℕ, ◌<◌, length, IfOk};
+ghost use Rattle.ow_plant.specs.State.{silent_terminal, put_on};
+
+use crate::displays::Display;
+use std::alloc::{AllocError, Global};
+use std::marker::Model;
+
+/// A terminal whose tape has room for a number of bytes that is fixed when it is made.
+#[derive(Drop)]
+pub(crate) struct Tty {
+    bytes: Vec<u8>,
+    count: usize,
+    display: Display,
+}
+
+impl Model for Tty {
+    ghost use Rattle.std.specs.Prelude.{◌≤◌, length, take};
+    ghost use Rattle.ow_plant.specs.State.{Terminal};
+
+    ghost Value = { Terminal };
+
+    ghost view = { λ t. record { tape = take t.count t.bytes.items; room = length t.bytes.items; display = t.display } };
+
+    ghost invariant = { λ t. t.count ≤ length t.bytes.items };
+}
+
+impl Tty {
+    /// A terminal with no room.
+    pub(crate) fn new(alloc: Global) -> Tty
+        ensures { result ≡ silent_terminal 0 }
+    {
+        Tty {
+            bytes: Vec::new(alloc),
+            count: 0,
+            display: Display::new(),
+        }
+    }
+
+    /// A terminal with room for so many bytes.
+    pub(crate) fn with_room(alloc: Global, room: usize) -> Result<Tty, AllocError>
+        ensures { IfOk result (λ t. t ≡ silent_terminal room) }
+    {
+        let bytes = vec![in alloc; 0; room]?;
+        Ok(Tty {
+            bytes,
+            count: 0,
+            display: Display::new(),
+        })
+    }
+
+    /// Writes a byte on the tape, where there must be room, and draws it.
+    pub(crate) fn put(&mut self, byte: u8)
+        requires { length self.old.tape < self.old.room }
+        ensures { self.new ≡ put_on self.old byte }
+    {
+        self.bytes[self.count] = byte;
+        self.count += 1;
+        self.display.draw(byte);
+    }
+
+    /// The bytes written so far.
+    pub(crate) fn tape(&self) -> &[u8]
+        ensures { result.now ≡ self.now.tape }
+    {
+        &self.bytes[..self.count]
+    }
+
+    /// What is seen.
+    pub(crate) fn display(&self) -> &Display
+        ensures { result.now ≡ self.now.display }
+    {
+        &self.display
+    }
+}
