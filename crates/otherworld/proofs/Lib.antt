@@ -1,0 +1,10 @@
+-- Lemmas of the program.
+pub mod Services
+pub mod Steps
+pub mod Answering
+pub mod Turns
+pub mod Sounds
+pub mod Loading
+pub mod Starting
+pub mod Tops
+pub mod Reports

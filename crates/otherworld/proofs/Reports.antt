@@ -1,0 +1,193 @@
+-- How the parts of the report follow each other, and the texts of its lines.
+use Rattle.std.proofs.Common.{◌≡◌, ℕ, suc, ◌+◌, ◌-◌, ◌<◌, ◌≤◌, min, nat_eq, true, false, List, [], ◌∷◌, ◌++◌, length, take, drop, get_or, length-drop, drop-cons, add-one, Option, Some, Result, inl, inr, refl, sym, ap, ◌∙◌, arith, append_assoc, append-nil}
+use Rattle.std.specs.Prelude.{decimal, codes}
+use lib.Pointwise.{pointwise}
+use Rattle.std.proofs.lemmas.List.{take_all}
+use Rattle.std.proofs.Math.ListN.{drop_of_length-le}
+use Rattle.std.proofs.Math.Seq.{drop-length}
+use Rattle.std.proofs.lemmas.Bool.{cases_lt, and_parts, and_cases, eqb-true}
+use Rattle.std.proofs.lemmas.Bool.Decides.{nat_tests}
+use Rattle.ow_base.specs.Lines.{line, spaced, escaped}
+use Rattle.ow_base.specs.Report.{status_words, process_line, out_lines, trimmed, kept_before, row_lines, row_line_of, process_lines, head_text, terminal_text, report_of}
+use Rattle.ow_base.specs.declared.worlds.Ending.{Ending}
+use Rattle.ow_plant.specs.State.{PlantState}
+use Rattle.otherworld.specs.declared.kernel_traps.Kernel.{Kernel}
+use Rattle.otherworld.specs.declared.ow_report.Word.{Word}
+use Rattle.otherworld.specs.declared.ow_report.Exit.{Exit}
+use Rattle.otherworld.specs.declared.ow_report.Exit.TheVariants.{Code, Signal, Fault, Lost}
+use Rattle.otherworld.specs.State.{unix_of, exit_of, IsRunOver}
+use Rattle.otherworld.specs.Writing.{word_text, line_text, exit_key, exit_number, status_of, IsExit, tape_line_count}
+use Rattle.ow_base.specs.Outside.{appended, IsFront, Writes}
+use Rattle.ow_base.proofs.Writing.{appended-nil, both, shifted, cut, then_writes}
+
+-- of a text a front is written, and this rest is left
+pub record PartWay (text rest : List ℕ) (old now : Option (List ℕ)) : Type 0 where
+  pub done : List ℕ
+  pub whole : text ≡ done ++ rest
+  pub put : now ≡ appended old done
+
+-- at first all is left
+pub begun : (text : List ℕ) (u : Option (List ℕ)) → PartWay text text u u
+begun text u = record { done = []; whole = refl; put = sym (appended-nil u) }
+
+-- a part more is written
+pub further : (text a rest : List ℕ) (u v w : Option (List ℕ)) → PartWay text (a ++ rest) u v → w ≡ appended v a → PartWay text rest u w
+further text a rest u v w p e = record {
+  done = p.done ++ a;
+  whole = p.whole ∙ sym (append_assoc p.done a rest);
+  put = both p.done a u v w p.put e;
+}
+
+-- a front of the next part is written, and so a front of the text
+pub broken : (text a rest : List ℕ) (u v w : Option (List ℕ)) → PartWay text (a ++ rest) u v → IsFront a v w → IsFront text u w
+broken text a rest u v w p front = rw p.whole (shifted p.done (a ++ rest) u v w p.put (cut a rest v w front))
+
+-- the last part is written, or a front of it
+pub finished : {T E : Type 0} (r : Result T E) (text a : List ℕ) (u v w : Option (List ℕ)) → PartWay text a u v → Writes r a v w → Writes r text u w
+finished r text a u v w p e = rw p.whole (then_writes r p.done a u v w p.put e)
+
+-- nothing is left
+pub complete : (text : List ℕ) (u v : Option (List ℕ)) → PartWay text [] u v → v ≡ appended u text
+complete text u v p = rw (p.whole, append-nil) p.put
+
+-- lines of one, of two and of three words behind the key word
+pub one_word : (key : List ℕ) (a : Word) → line_text key (a ∷ []) ≡ line (spaced key (word_text a))
+unfolding line_text
+one_word key a = simp append_assoc
+
+pub two_words : (key : List ℕ) (a b : Word) → line_text key (a ∷ b ∷ []) ≡ line (spaced (spaced key (word_text a)) (word_text b))
+unfolding line_text
+two_words key a b = simp append_assoc refl
+
+pub three_words : (key : List ℕ) (a b d : Word) → line_text key (a ∷ b ∷ d ∷ []) ≡ line (spaced (spaced (spaced key (word_text a)) (word_text b)) (word_text d))
+unfolding line_text
+three_words key a b d = simp append_assoc refl
+
+-- the words of a status
+pub exit_words : (e : Exit) → IsExit e → status_words (status_of e) ≡ spaced (exit_key e) (decimal (exit_number e))
+unfolding status_words
+exit_words (Code n) h = grind (arith, nat_tests)
+exit_words (Signal n) h = grind (arith, nat_tests)
+exit_words (Fault n) h = grind (arith, nat_tests)
+exit_words (Lost n) h = grind (arith, nat_tests)
+
+-- a word and a number stand in a line as any two words do
+regrouped : (key p x y : List ℕ) → line (spaced (spaced (spaced key p) x) y) ≡ line (spaced (spaced key p) (spaced x y))
+regrouped key p x y = simp append_assoc refl
+
+-- the line of an exit
+pub exit_line : (pid : ℕ) (e : Exit) (a b d : Word) → IsExit e → word_text a ≡ decimal pid → word_text b ≡ exit_key e → word_text d ≡ decimal (exit_number e)
+    → line_text (codes "exit") (a ∷ b ∷ d ∷ []) ≡ process_line pid (Some (status_of e))
+exit_line pid e a b d h p k n =
+    three_words (codes "exit") a b d
+    ∙ rw (p, k, n) (regrouped (codes "exit") (decimal pid) (exit_key e) (decimal (exit_number e)))
+    ∙ ap (λ (text : List ℕ). line (spaced (spaced (codes "exit") (decimal pid)) text)) (sym (exit_words e h))
+
+-- a tape that is not empty begins with a line of 64 bytes
+pub out_more : (tape : List ℕ) → 0 < length tape → out_lines (tape_line_count tape) tape ≡ line (spaced (codes "out") (escaped (take 64 tape))) ++ out_lines (tape_line_count (drop 64 tape)) (drop 64 tape)
+unfolding out_lines
+out_more tape h =
+    let more : tape_line_count tape ≡ suc (tape_line_count (drop 64 tape)) = rw length-drop (omega arith) in
+    rw more refl
+
+-- an empty one has no line
+pub out_none : (tape : List ℕ) → length tape ≡ 0 → out_lines (tape_line_count tape) tape ≡ []
+unfolding out_lines
+out_none [] h = refl
+out_none (b ∷ tape) h = absurd (omega arith)
+
+-- the least of the length and 64 splits a tape as 64 does
+pub split_front : (tape : List ℕ) → take (min (length tape) 64) tape ≡ take 64 tape
+split_front tape = elim (cases_lt (length tape) 64) [
+  | inl h ↦ (let all : min (length tape) 64 ≡ length tape = omega arith in
+      rw all (take_all (length tape) tape (omega arith) ∙ sym (take_all 64 tape (omega arith))))
+  | inr h ↦ (let some : min (length tape) 64 ≡ 64 = omega arith in rw some refl)
+]
+
+pub split_back : (tape : List ℕ) → drop (min (length tape) 64) tape ≡ drop 64 tape
+split_back tape = elim (cases_lt (length tape) 64) [
+  | inl h ↦ (let all : min (length tape) 64 ≡ length tape = omega arith in
+      let short : length tape ≤ 64 = omega arith in
+      rw all (drop-length tape ∙ sym (drop_of_length-le tape short)))
+  | inr h ↦ (let some : min (length tape) 64 ≡ 64 = omega arith in rw some refl)
+]
+
+-- a row without the space at its end, and one with none there
+pub trim_space : (row : List ℕ) → pointwise nat_eq (drop (length row - 1) row) (32 ∷ []) ≡ true → trimmed (take (length row - 1) row) ≡ trimmed row
+unfolding trimmed
+trim_space [] h = refl
+trim_space (b ∷ []) h = let e : nat_eq b 32 ≡ true = (and_parts (nat_eq b 32) true h).0 in rw e refl
+trim_space (b ∷ (d ∷ row)) h =
+    let e : length (b ∷ (d ∷ row)) - 1 ≡ suc (length (d ∷ row) - 1) = omega arith in
+    rw e (ap (λ (text : List ℕ). kept_before b text) (trim_space (d ∷ row) (rw e at h)))
+
+pub trim_none : (row : List ℕ) → pointwise nat_eq (drop (length row - 1) row) (32 ∷ []) ≡ false → trimmed row ≡ row
+unfolding trimmed
+trim_none [] h = refl
+trim_none (b ∷ []) h = elim (and_cases (nat_eq b 32) true h) [ inl e ↦ rw e refl | inr e ↦ absurd (cc) ]
+trim_none (b ∷ (d ∷ row)) h =
+    let e : length (b ∷ (d ∷ row)) - 1 ≡ suc (length (d ∷ row) - 1) = omega arith in
+    ap (λ (text : List ℕ). kept_before b text) (trim_none (d ∷ row) (rw e at h))
+
+-- the line of a row that is not blank
+pub row_line : (number : ℕ) (text : List ℕ) (a b : Word) → false ≡ nat_eq (length text) 0 → word_text a ≡ decimal number → word_text b ≡ escaped text
+    → line_text (codes "row") (a ∷ b ∷ []) ≡ row_line_of number text
+row_line number [] a b h p q = absurd (cc)
+row_line number (d ∷ text) a b h p q = two_words (codes "row") a b ∙ rw (p, q) refl
+
+-- what the test for an empty list says
+pub some_left : (xs : List ℕ) → false ≡ nat_eq (length xs) 0 → 0 < length xs
+some_left [] h = absurd (cc)
+some_left (b ∷ xs) h = omega arith
+
+pub none_left : (xs : List ℕ) → true ≡ nat_eq (length xs) 0 → length xs ≡ 0
+none_left xs h = eqb-true (length xs) 0 (sym h)
+
+-- one line more of a tape, whose bytes and the others were split off the rest
+pub out_further : (text rest bytes others : List ℕ) (n : ℕ) (u v w : Option (List ℕ)) → 0 < length rest → n ≡ min (length rest) 64 → bytes ≡ take n rest → others ≡ drop n rest
+    → PartWay text (out_lines (tape_line_count rest) rest) u v → w ≡ appended v (line (spaced (codes "out") (escaped bytes)))
+    → PartWay text (out_lines (tape_line_count others) others) u w
+out_further text rest bytes others n u v w some least front back p e =
+    let others_are : others ≡ drop 64 rest = back ∙ ap (λ (m : ℕ). drop m rest) least ∙ split_back rest in
+    let bytes_are : bytes ≡ take 64 rest = front ∙ ap (λ (m : ℕ). take m rest) least ∙ split_front rest in
+    rw others_are (further text (line (spaced (codes "out") (escaped (take 64 rest)))) _ u v w (rw (out_more rest some) at p) (rw bytes_are at e))
+
+pub out_broken : (text rest bytes : List ℕ) (n : ℕ) (u v w : Option (List ℕ)) → 0 < length rest → n ≡ min (length rest) 64 → bytes ≡ take n rest
+    → PartWay text (out_lines (tape_line_count rest) rest) u v → IsFront (line (spaced (codes "out") (escaped bytes))) v w → IsFront text u w
+out_broken text rest bytes n u v w some least front p e =
+    let bytes_are : bytes ≡ take 64 rest = front ∙ ap (λ (m : ℕ). take m rest) least ∙ split_front rest in
+    broken text (line (spaced (codes "out") (escaped (take 64 rest)))) _ u v w (rw (out_more rest some) at p) (rw bytes_are at e)
+
+pub out_complete : (text rest : List ℕ) (u v : Option (List ℕ)) → length rest ≡ 0 → PartWay text (out_lines (tape_line_count rest) rest) u v → v ≡ appended u text
+out_complete text rest u v none p = complete text u v (rw (out_none rest none) at p)
+
+-- the lines of the rows from one on are its line and those of the others
+pub rows_more : (rows : List (List ℕ)) (r : ℕ) → r < length rows → row_lines r (drop r rows) ≡ row_line_of r (trimmed (get_or rows r [])) ++ row_lines (r + 1) (drop (r + 1) rows)
+unfolding row_lines
+rows_more rows r h = let e : drop r rows ≡ get_or rows r [] ∷ drop (r + 1) rows = rw add-one (drop-cons rows r [] h) in rw e refl
+
+-- behind the last row there is none
+pub rows_none : (rows : List (List ℕ)) (r : ℕ) → length rows ≡ r → row_lines r (drop r rows) ≡ []
+unfolding row_lines
+rows_none rows r h = rw (← h, drop-length) refl
+
+-- one row more of a screen
+pub rows_further : (text : List ℕ) (rows : List (List ℕ)) (r : ℕ) (row : List ℕ) (u v w : Option (List ℕ)) → r < length rows → row ≡ get_or rows r []
+    → PartWay text (row_lines r (drop r rows)) u v → w ≡ appended v (row_line_of r (trimmed row)) → PartWay text (row_lines (r + 1) (drop (r + 1) rows)) u w
+rows_further text rows r row u v w h is p e =
+    further text (row_line_of r (trimmed (get_or rows r []))) _ u v w (rw (rows_more rows r h) at p) (rw is at e)
+
+pub rows_broken : (text : List ℕ) (rows : List (List ℕ)) (r : ℕ) (row : List ℕ) (u v w : Option (List ℕ)) → r < length rows → row ≡ get_or rows r []
+    → PartWay text (row_lines r (drop r rows)) u v → IsFront (row_line_of r (trimmed row)) v w → IsFront text u w
+rows_broken text rows r row u v w h is p e =
+    broken text (row_line_of r (trimmed (get_or rows r []))) _ u v w (rw (rows_more rows r h) at p) (rw is at e)
+
+pub rows_complete : (text : List ℕ) (rows : List (List ℕ)) (r : ℕ) (u v : Option (List ℕ)) → length rows ≡ r → PartWay text (row_lines r (drop r rows)) u v → v ≡ appended u text
+rows_complete text rows r u v h p = complete text u v (rw (rows_none rows r h) at p)
+
+-- the report of a run that is over, by its parts
+pub report_parts : (ending : Ending) (s : PlantState) (k : Kernel) → IsRunOver s
+    → report_of ending (unix_of s k) ≡ head_text ending s.steps s.traps ++ (process_line 1 (exit_of k.life)
+    ++ (terminal_text 0 s.tty0.tape s.tty0.display ++ (terminal_text 1 s.tty1.tape s.tty1.display ++ line (codes "end"))))
+unfolding report_of unix_of process_lines
+report_parts ending s k over = rw (over.shown0, over.shown1, append-nil) refl

@@ -1,0 +1,152 @@
+-- Each turn leaves a sound state.
+use Rattle.std.proofs.Common.{◌≡◌, ℕ, zero, suc, ◌+◌, ◌-◌, ◌*◌, ◌^◌, ◌<◌, ◌≤◌, Bool, true, false, cond, nat_eq, nat_lt, List, [], ◌∷◌, ◌++◌, length, Option, Some, None, MatchBool, refl, ap, sym, subst, ◌∙◌, arith, length-append}
+use Rattle.std.proofs.lemmas.Grind.{common_steps}
+use Rattle.ow_base.specs.Screen.{Screen, drawn_all, drawn, screen_of}
+use Rattle.ow_base.specs.UserStep.{Stepped, Next, Call, Faulted, user_step}
+use Rattle.ow_base.specs.Pages.{Pages, page_space}
+use Rattle.ow_base.specs.declared.machine.Bank.{Bank}
+use Rattle.ow_base.specs.declared.machine.Fault.{Fault}
+use Rattle.ow_base.specs.declared.machine.Rights.{Rights}
+use Rattle.ow_base.specs.declared.machine.Came.{Came}
+use Rattle.ow_base.specs.declared.machine.Came.TheVariants as came
+use Rattle.ow_plant.specs.State.{PlantState, pages_of, PageStore, placed_count, entered, returned_to, risen, StepsAs, TakesUserTurn, tty_of, Terminal as Device}
+use Rattle.ow_plant.specs.declared.UserEnd.TheVariants as end
+use Rattle.otherworld.specs.declared.kernel_traps.Life.{Life}
+use Rattle.otherworld.specs.declared.kernel_traps.Life.TheVariants.{Outside, Writing, Ended}
+use Rattle.otherworld.specs.declared.kernel_traps.Kernel.{Kernel}
+use Rattle.otherworld.specs.State.{kernel_in, puts_on, with_puts, IsLifeSound, IsSound, IsTurned, IsServed, IsInService, IsTerminalSound, IsWithinMemory, KeepsRights}
+use Rattle.otherworld.proofs.Steps.{KeepsRights-user_step}
+
+-- the process in user mode is outside a call
+pub by_outside : (P : Kernel → Type 0) (s : PlantState) (k : Kernel) → s.in_user ≡ true → IsLifeSound s k.life → ((tty last : ℕ) (b : Bank) → P (record { tty = tty; last = last; life = Outside b })) → P k
+by_outside P s k h sound each = by_life k.tty k.last k.life sound
+  where
+    by_life : (tty last : ℕ) (life : Life) → IsLifeSound s life → P (record { tty = tty; last = last; life = life })
+    by_life tty last (Outside b) sound = each tty last b
+    by_life tty last (Writing b d) sound = absurd (cc (sound.0, h))
+    by_life tty last (Ended st) sound = absurd (cc (sound, h))
+
+-- bytes are drawn behind others
+drawn_all-append : (s : Screen) (xs ys : List ℕ) → drawn_all s (xs ++ ys) ≡ drawn_all (drawn_all s xs) ys
+drawn_all-append s [] ys = refl
+drawn_all-append s (x ∷ xs) ys = drawn_all-append (drawn s x) xs ys
+
+pub screen_of-append : (xs ys : List ℕ) → screen_of (xs ++ ys) ≡ drawn_all (screen_of xs) ys
+unfolding screen_of
+screen_of-append xs ys = drawn_all-append _ xs ys
+
+-- a terminal that takes nothing, and one that takes a piece
+kept_terminal : (t : Device) (n budget : ℕ) → IsTerminalSound t n budget → IsTerminalSound t (n + 1) budget
+kept_terminal t n budget h = record { shown = h.shown; few = omega (arith, h.few); room = h.room }
+
+put_terminal : (t : Device) (bytes : List ℕ) (n budget : ℕ) → length bytes ≤ 16 → IsTerminalSound t n budget → IsTerminalSound (puts_on t bytes) (n + 1) budget
+put_terminal t bytes n budget few h = record {
+  shown = sym (screen_of-append t.tape bytes ∙ ap (λ (d : Screen). drawn_all d bytes) (sym h.shown));
+  few = simp length-append (omega (arith, h.few));
+  room = h.room;
+}
+
+-- an instruction keeps the rights of the pages
+next_rights_by : (s new : PlantState) (low : Bool) (made : Stepped Pages) → KeepsRights (pages_of s.pages) made
+  → MatchBool low (StepsAs s new end.Next made) ((end.Next ≡ end.Slice) × (new ≡ s))
+  → ((pages_of new.pages).rights ≡ (pages_of s.pages).rights) × (new ≡ record s { pages = new.pages; bank = new.bank; slice = s.slice + 1; steps = risen s.steps })
+next_rights_by s new false made k m = absurd (cc m.0)
+next_rights_by s new true Call k m = absurd (cc m.0)
+next_rights_by s new true (Faulted fault) k m = absurd (cc m.0)
+next_rights_by s new true (Next regs pc pages) k m = (ap (λ (p : Pages). p.rights) m.1 ∙ k, grind (arith, common_steps, m.3))
+
+next_kept : (s : PlantState) (pages : PageStore) (bank : Bank) (k : Kernel) → IsSound s k → s.steps < s.shape.budget → (pages_of pages).rights ≡ (pages_of s.pages).rights
+  → IsTurned s (record s { pages = pages; bank = bank; slice = s.slice + 1; steps = risen s.steps }) k
+next_kept s pages bank k sound few kept =
+    let one_more : risen s.steps ≡ s.steps + 1 = omega (arith, sound.small) in
+    record {
+      sound = record {
+        armed = sound.armed;
+        tty = sound.tty;
+        last = sound.last;
+        life = sound.life;
+        within = λ page past. ap (λ (r : ℕ → Option Rights). r page) kept ∙ sound.within page past;
+        budget = omega (arith, one_more);
+        small = sound.small;
+        few_traps = omega (arith, one_more, sound.few_traps);
+        tty0 = rw one_more (kept_terminal s.tty0 s.steps s.shape.budget sound.tty0);
+        tty1 = rw one_more (kept_terminal s.tty1 s.steps s.shape.budget sound.tty1);
+        no_history = sound.no_history;
+      };
+      same_shape = refl;
+      one_step = one_more;
+    }
+
+pub next_sound : (s new : PlantState) (k : Kernel) → IsSound s k → s.steps < s.shape.budget → TakesUserTurn s new end.Next → IsTurned s new k
+next_sound s new k sound few taken =
+    let kept = next_rights_by s new _ _ (KeepsRights-user_step (pages_of s.pages) s.bank.regs s.bank.pc) taken in
+    subst (λ (n : PlantState). IsTurned s n k) (sym kept.1) (next_kept s new.pages new.bank k sound few kept.0)
+
+-- the plant in a trap of the process
+abbrev in_trap : PlantState → PlantState
+in_trap s = record s { in_user = false; traps = risen s.traps; steps = risen s.steps }
+
+-- a trap in which the terminals become these
+trap_kept : (s : PlantState) (tty : ℕ) (life : Life) (t0 t1 : Device) (k : Kernel) → IsSound s k → s.steps < s.shape.budget → tty < 2
+  → IsTerminalSound t0 (s.steps + 1) s.shape.budget → IsTerminalSound t1 (s.steps + 1) s.shape.budget
+  → IsLifeSound (record (in_trap s) { tty0 = t0; tty1 = t1 }) life → IsTurned s (record (in_trap s) { tty0 = t0; tty1 = t1 }) (kernel_in tty life)
+trap_kept s tty life t0 t1 k sound few which sound0 sound1 alive =
+    let step_more : risen s.steps ≡ s.steps + 1 = omega (arith, sound.small) in
+    let trap_more : risen s.traps ≡ s.traps + 1 = omega (arith, sound.small, sound.few_traps) in
+    record {
+      sound = record {
+        armed = sound.armed;
+        tty = which;
+        last = omega arith;
+        life = alive;
+        within = sound.within;
+        budget = omega (arith, step_more);
+        small = sound.small;
+        few_traps = omega (arith, step_more, trap_more, sound.few_traps);
+        tty0 = rw step_more sound0;
+        tty1 = rw step_more sound1;
+        no_history = sound.no_history;
+      };
+      same_shape = refl;
+      one_step = step_more;
+    }
+
+-- a trap of the process in which its terminal takes a piece
+served_kept : (s : PlantState) (tty : ℕ) (life : Life) (bytes : List ℕ) (k : Kernel) → IsSound s k → s.steps < s.shape.budget → tty < 2
+  → length bytes ≤ 16 → IsLifeSound (with_puts (in_trap s) tty bytes) life → IsTurned s (with_puts (in_trap s) tty bytes) (kernel_in tty life)
+served_kept s zero life bytes k sound few which short alive =
+    trap_kept s 0 life (puts_on s.tty0 bytes) s.tty1 k sound few which (put_terminal s.tty0 bytes s.steps s.shape.budget short sound.tty0) (kept_terminal s.tty1 s.steps s.shape.budget sound.tty1) alive
+served_kept s (suc zero) life bytes k sound few which short alive =
+    trap_kept s 1 life s.tty0 (puts_on s.tty1 bytes) k sound few which (kept_terminal s.tty0 s.steps s.shape.budget sound.tty0) (put_terminal s.tty1 bytes s.steps s.shape.budget short sound.tty1) alive
+served_kept s (suc (suc n)) life bytes k sound few which short alive = absurd (omega arith)
+
+pub served_sound : (s new : PlantState) (k : Kernel) (life : Life) → IsSound s k → s.steps < s.shape.budget → IsServed k.tty (in_trap s) new life → IsTurned s new (kernel_in k.tty life)
+served_sound s new k life sound few served =
+    subst (λ (n : PlantState). IsTurned s n (kernel_in k.tty life)) (sym served.put)
+      (served_kept s k.tty life served.bytes k sound few sound.tty served.few (subst (λ (n : PlantState). IsLifeSound n life) served.put served.sound))
+
+-- in a trap the plant is in the kernel, with room for a piece
+room_of : (s : PlantState) (tty : ℕ) (k : Kernel) → IsSound s k → s.steps < s.shape.budget → tty < 2 → length (tty_of (in_trap s) tty).tape + 16 ≤ (tty_of (in_trap s) tty).room
+room_of s zero k sound few which = omega (arith, sound.tty0.few, sound.tty0.room)
+room_of s (suc zero) k sound few which = omega (arith, sound.tty1.few, sound.tty1.room)
+room_of s (suc (suc n)) k sound few which = absurd (omega arith)
+
+pub service_of : (s : PlantState) (k : Kernel) → IsSound s k → s.steps < s.shape.budget → IsInService (in_trap s) k.tty
+service_of s k sound few = record {
+  armed = sound.armed;
+  in_kernel = refl;
+  which = sound.tty;
+  within = sound.within;
+  room = room_of s k.tty k sound few sound.tty;
+}
+
+-- a fault of a user turn has a small cause
+small_by : (s new : PlantState) (fault : Fault) (low : Bool) (made : Stepped Pages) → KeepsRights (pages_of s.pages) made
+  → MatchBool low (StepsAs s new (end.Fault fault) made) ((end.Fault fault ≡ end.Slice) × (new ≡ s)) → fault.cause < 16
+small_by s new fault false made k m = absurd (cc m.0)
+small_by s new fault true Call k m = absurd (cc m.0)
+small_by s new fault true (Faulted other) k m = let same : fault ≡ other = cc m.0 in rw same k
+small_by s new fault true (Next regs pc pages) k m = absurd (cc m.0)
+
+pub small_cause : (s new : PlantState) (fault : Fault) → TakesUserTurn s new (end.Fault fault) → fault.cause < 16
+small_cause s new fault taken = small_by s new fault _ _ (KeepsRights-user_step (pages_of s.pages) s.bank.regs s.bank.pc) taken

@@ -1,0 +1,25 @@
+use Rattle.std.proofs.Common.{◌≡◌, ◌≤◌, ◌<◌, nat_lt, nat_eq, true, false, arith}
+use Rattle.std.proofs.lemmas.Grind.{common_steps}
+use Rattle.std.proofs.lemmas.Result.{IfOk-weaker}
+use Rattle.ow_base.specs.Words.{minus}
+use Rattle.ow_base.specs.UserStep.{register}
+use Rattle.otherworld.specs.State.{answered_life, IsMadeBy}
+use Rattle.otherworld.proofs.Answering.{answers, exits, called-exit, called-write, called-none}
+use Rattle.otherworld.proofs.kernel_traps.serve_call.Goals as goal
+
+pub returns-in-1-clause-made : goal.returns-in-1-clause-made
+returns-in-1-clause-made c =
+    let number : register c.args.bank.now.regs 17 ≡ 1 = cc in
+    rw c.get-in-1.ensures (called-exit c.args.tty c.args.bank.now _ _ _ number (exits c.args.tty c.args.bank.now c.args.plant.now c.requires.in_kernel))
+
+pub returns-in-2-clause-made : goal.returns-in-2-clause-made
+returns-in-2-clause-made c =
+    let number : register c.args.bank.now.regs 17 ≡ 2 = cc in
+    IfOk-weaker c.write_entry.result _ _ (λ life made. called-write c.args.tty c.args.bank.now c.args.plant.now c.write_entry.new.plant life number made) c.write_entry.ensures.made
+
+pub returns-in_default-clause-made : goal.returns-in_default-clause-made
+returns-in_default-clause-made c =
+    let no_exit : nat_eq (register c.args.bank.now.regs 17) 1 ≡ false = grind (arith, common_steps) in
+    let no_write : nat_eq (register c.args.bank.now.regs 17) 2 ≡ false = grind (arith, common_steps) in
+    let life : c.answered.result ≡ answered_life c.args.bank.now (minus 38) = cc in
+    rw life (called-none c.args.tty c.args.bank.now _ _ _ no_exit no_write (answers c.args.tty (minus 38) c.args.bank.now c.args.plant.now c.requires.in_kernel))

@@ -1,0 +1,15 @@
+use Rattle.std.proofs.Common.{ap, refl}
+use Rattle.std.specs.Prelude.{decimal}
+use Rattle.otherworld.specs.declared.ow_report.Word.TheVariants.{Number, Escaped}
+use Rattle.otherworld.proofs.Reports.{row_line}
+use Rattle.otherworld.proofs.ow_report.put_row.Goals as goal
+
+pub returns-clause-writes : goal.returns-clause-writes
+returns-clause-writes g c =
+    let text = c.without_trailing_spaces-text in
+    rw (
+      ← text.ensures,
+      ← (row_line c.args.number text.result.now (Number c.from.result) (Escaped text.result) c.if-is_empty.ensures
+          (ap decimal c.from.ensures) refl),
+    )
+    c.put_line.ensures.writes

@@ -1,0 +1,4 @@
+-- The definitions that the program's contracts cite beside those of the crates below.
+pub mod State
+pub mod Top
+pub mod Writing

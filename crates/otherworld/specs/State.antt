@@ -1,0 +1,215 @@
+-- Which state of the Unix a plant and the kernel's own words stand for.
+use Rattle.std.specs.Prelude.{◌≡◌, ℕ, ◌+◌, ◌-◌, ◌*◌, ◌/◌, ◌%◌, ◌^◌, ◌<◌, ◌≤◌, Bool, true, false, ◌==◌, if◌then◌else◌, List, [], ◌∷◌, ◌++◌, length, replicate, Option, Some, None}
+use Rattle.ow_base.specs.Screen.{screen_of, drawn_all}
+use Rattle.ow_base.specs.Words.{byte_of_words, wrapped, minus}
+use Rattle.ow_base.specs.Pages.{Pages}
+use Rattle.ow_base.specs.UserStep.{register, with_register, Stepped, Next, Call, Faulted}
+use Rattle.ow_base.specs.Unix.{Unix, Process, CallState, Out, In, Description, OnTty, Terminal, silent_terminal, AtKernel, AtUser, Position, started_descriptors, started_rights, page_count, is_within}
+use Rattle.ow_base.specs.World.{started_page_count}
+use Rattle.ow_base.specs.declared.machine.Bank.{Bank}
+use Rattle.ow_base.specs.declared.machine.Rights.{Rights}
+use Rattle.ow_base.specs.declared.machine.Shape.{Shape}
+use Rattle.ow_base.specs.declared.worlds.Load.{Load}
+use Rattle.ow_base.specs.declared.worlds.Program.{Program}
+use Rattle.ow_base.specs.declared.worlds.Start.{Start as Started}
+use Rattle.ow_plant.specs.State.{PlantState, pages_of, tty_of, Terminal as Device}
+use Rattle.otherworld.specs.declared.kernel_traps.Life.{Life}
+use Rattle.otherworld.specs.declared.kernel_traps.Life.TheVariants.{Outside, Writing, Ended}
+use Rattle.otherworld.specs.declared.kernel_traps.Kernel.{Kernel}
+use Rattle.otherworld.specs.declared.kernel_traps.Errno.{Errno}
+use Rattle.otherworld.specs.declared.kernel_traps.Errno.TheVariants.{BadDescriptor, BadAddress, Invalid, NoCall}
+
+-- what stands at pid 1 alone
+abbrev pub only : {V : Type 0} → Option V → (pid : ℕ) → Option V
+only o pid = if pid == 1 then o else None
+
+-- a started process that has come so far
+abbrev pub process_in : CallState → Bank → Pages → Process
+process_in call bank pages = record {
+  call = call;
+  bank = bank;
+  pages = pages;
+  brk = 0;
+  descriptors = started_descriptors 0;
+  handlers = replicate 15 0;
+  pending = λ _. false;
+  handler_save = None;
+  procedure = 0;
+  procedure_save = None;
+  parent = 0;
+}
+
+-- the process, if it is live; in user mode the plant has its bank
+abbrev pub process_of : PlantState → Life → Option Process
+process_of s (Outside bank) = Some (process_in Out (if s.in_user then s.bank else bank) (pages_of s.pages))
+process_of s (Writing bank done) = Some (process_in (In 2 done) bank (pages_of s.pages))
+process_of s (Ended status) = None
+
+abbrev pub exit_of : Life → Option ℕ
+exit_of (Outside bank) = None
+exit_of (Writing bank done) = None
+exit_of (Ended status) = Some status
+
+abbrev pub terminal_of : Device → Terminal
+terminal_of t = record { tape = t.tape; base = 0; consumed = 0 }
+
+abbrev pub terminals_of : PlantState → ℕ → Terminal
+terminals_of s tty = if tty == 0 then terminal_of s.tty0 else if tty == 1 then terminal_of s.tty1 else silent_terminal
+
+abbrev pub the_description : (tty number : ℕ) → Option Description
+the_description tty number = if number == 0 then Some (record { object = OnTty tty; reads = true; writes = true; offset = 0 }) else None
+
+abbrev pub position_of : PlantState → Position
+position_of s = if s.in_user then AtUser 1 s.slice else AtKernel
+
+-- the state of the Unix
+unfoldable pub unix_of : PlantState → Kernel → Unix
+unix_of s k = record {
+  processes = only (process_of s k.life);
+  ended = λ _. None;
+  descriptions = the_description k.tty;
+  files = λ _. None;
+  terminals = terminals_of s;
+  exits = only (exit_of k.life);
+  next_pid = 2;
+  last_pid = k.last;
+  steps = s.steps;
+  traps = s.traps;
+  position = position_of s;
+}
+
+-- the process has not ended
+abbrev pub IsLive : Life → Type 0
+IsLive (Outside bank) = Unit {0}
+IsLive (Writing bank done) = Unit {0}
+IsLive (Ended status) = ⊥
+
+-- a write in progress: its descriptor is open, its count is a count, and bytes are left
+pub record IsWriting (bank : Bank) (done : ℕ) : Type 0 where
+  pub descriptor : register bank.regs 10 ≤ 2
+  pub small : register bank.regs 12 ≤ 0x7fffffff
+  pub left : done < register bank.regs 12
+
+-- only a process outside a call is in user mode
+abbrev pub IsLifeSound : PlantState → Life → Type 0
+IsLifeSound s (Outside bank) = Unit {0}
+IsLifeSound s (Writing bank done) = (s.in_user ≡ false) × IsWriting bank done
+IsLifeSound s (Ended status) = s.in_user ≡ false
+
+-- the display shows the tape, and the tape has room for what a turn can write
+pub record IsTerminalSound (t : Device) (steps budget : ℕ) : Type 0 where
+  pub shown : t.display ≡ screen_of t.tape
+  pub few : length t.tape ≤ 16 * steps
+  pub room : t.room ≡ 16 * budget
+
+-- no page lies past the last address
+abbrev pub IsWithinMemory : Pages → Type 0
+IsWithinMemory pages = (page : ℕ) → 2 ^ 20 ≤ page → pages.rights page ≡ None
+
+-- bytes go to the end of a tape and are drawn, one after the other
+abbrev pub puts_on : Device → (bytes : List ℕ) → Device
+puts_on t bytes = record t { tape = t.tape ++ bytes; display = drawn_all t.display bytes }
+
+abbrev pub with_puts : PlantState → (tty : ℕ) → (bytes : List ℕ) → PlantState
+with_puts s tty bytes = if tty == 0 then record s { tty0 = puts_on s.tty0 bytes } else record s { tty1 = puts_on s.tty1 bytes }
+
+-- the kernel's words in a trap of the process
+abbrev pub kernel_in : (tty : ℕ) → Life → Kernel
+kernel_in tty life = record { tty = tty; last = 1; life = life }
+
+-- the number of an error
+abbrev pub number_of : Errno → ℕ
+number_of BadDescriptor = 9
+number_of BadAddress = 14
+number_of Invalid = 22
+number_of NoCall = 38
+
+-- what becomes of a process whose call is answered: the answer is in a0, and pc is behind the call
+abbrev pub answered_life : Bank → (answer : ℕ) → Life
+answered_life bank answer = Outside (record { pc = wrapped (bank.pc + 4); regs = with_register bank.regs 10 answer })
+
+-- of a write that is stopped, and of one that has a piece more
+abbrev pub stopped_life : Bank → (done error : ℕ) → Life
+stopped_life bank done error = answered_life bank (if done == 0 then minus error else done)
+
+abbrev pub written_life : Bank → (done count : ℕ) → Life
+written_life bank done count = if done == count then answered_life bank count else Writing bank done
+
+-- a state of the Unix is what an operation on the process makes of the state before, wherever the kernel
+-- had the process before
+abbrev pub IsMadeBy : (Unix → Process → Unix) → (tty : ℕ) → Bank → (old new : PlantState) → Life → Type 0
+IsMadeBy operation tty bank old new life = (o : Life) (call : CallState) → IsLive o →
+    unix_of new (kernel_in tty life) ≡ operation (unix_of old (kernel_in tty o)) (process_in call bank (pages_of old.pages))
+
+-- in a service the plant takes at most 16 bytes on the process's terminal, and what becomes of the process is sound
+pub record IsServed (tty : ℕ) (old new : PlantState) (life : Life) : Type 0 where
+  pub bytes : List ℕ
+  pub few : length bytes ≤ 16
+  pub put : new ≡ with_puts old tty bytes
+  pub sound : IsLifeSound new life
+
+-- in the kernel, with room for a piece on a terminal
+pub record IsInService (s : PlantState) (tty : ℕ) : Type 0 where
+  pub armed : s.armed ≡ true
+  pub in_kernel : s.in_user ≡ false
+  pub which : tty < 2
+  pub within : IsWithinMemory (pages_of s.pages)
+  pub room : length (tty_of s tty).tape + 16 ≤ (tty_of s tty).room
+
+-- between turns
+pub record IsSound (s : PlantState) (k : Kernel) : Type 0 where
+  pub armed : s.armed ≡ true
+  pub tty : k.tty < 2
+  pub last : k.last ≤ 1
+  pub life : IsLifeSound s k.life
+  pub within : IsWithinMemory (pages_of s.pages)
+  pub budget : s.steps ≤ s.shape.budget
+  pub small : s.shape.budget ≤ 2000000
+  pub few_traps : s.traps ≤ s.steps
+  pub tty0 : IsTerminalSound s.tty0 s.steps s.shape.budget
+  pub tty1 : IsTerminalSound s.tty1 s.steps s.shape.budget
+  pub no_history : s.history ≡ []
+
+-- a turn of a sound state leaves a sound one of the same machine
+pub record IsTurned (old new : PlantState) (m : Kernel) : Type 0 where
+  pub sound : IsSound new m
+  pub same_shape : new.shape ≡ old.shape
+  pub one_step : new.steps ≡ old.steps + 1
+
+-- after the closing trap: what is still asked of the plant, and that its terminals are as they were
+pub record IsClosed (old new : PlantState) : Type 0 where
+  pub armed : new.armed ≡ true
+  pub same_shape : new.shape ≡ old.shape
+  pub same_tty0 : new.tty0 ≡ old.tty0
+  pub same_tty1 : new.tty1 ≡ old.tty1
+  pub no_history : new.history ≡ []
+
+-- after a run: each display shows its tape, and there was no panic
+pub record IsRunOver (new : PlantState) : Type 0 where
+  pub armed : new.armed ≡ true
+  pub shown0 : new.tty0.display ≡ screen_of new.tty0.tape
+  pub shown1 : new.tty1.display ≡ screen_of new.tty1.tape
+  pub no_history : new.history ≡ []
+
+-- so many pages from a first one on hold these words, 0 behind the last word; the others are as they were
+unfoldable pub with_words : Pages → (first count : ℕ) → Rights → (words : List ℕ) → Pages
+with_words pages first count rights words = record {
+  rights = λ page. if is_within first count page then Some rights else pages.rights page;
+  bytes = λ a. if is_within first count (a / 4096) then byte_of_words words (a - 4096 * first) else pages.bytes a;
+}
+
+-- a load of one program that is started once, and whose pages fit
+pub record IsBuilt (load : Load) (program : Program) (start : Started) : Type 0 where
+  pub programs : load.programs ≡ program ∷ []
+  pub starts : load.starts ≡ start ∷ []
+  pub named : start.program ≡ 0
+  pub tty : start.tty < 2
+  pub short_code : length program.code ≤ 65536
+  pub short_values : length program.values ≤ 65536
+  pub frames : started_page_count program ≤ load.shape.user_frames
+
+-- a step keeps the rights of all pages, and its faults have causes below 16
+abbrev pub KeepsRights : Pages → Stepped Pages → Type 0
+KeepsRights old (Next regs pc pages) = pages.rights ≡ old.rights
+KeepsRights old Call = Unit {0}
+KeepsRights old (Faulted fault) = fault.cause < 16

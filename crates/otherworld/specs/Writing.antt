@@ -1,0 +1,52 @@
+-- How the report's lines are put together.
+use Rattle.std.specs.Prelude.{ℕ, ◌+◌, ◌/◌, ◌<◌, List, [], ◌∷◌, ◌++◌, length, flat_map, codes, decimal}
+use Rattle.ow_base.specs.Lines.{escaped}
+use Rattle.otherworld.specs.declared.ow_report.Word.{Word}
+use Rattle.otherworld.specs.declared.ow_report.Word.TheVariants.{Key, Number, Escaped}
+use Rattle.otherworld.specs.declared.ow_report.Exit.{Exit}
+use Rattle.otherworld.specs.declared.ow_report.Exit.TheVariants.{Code, Signal, Fault, Lost}
+
+-- the text of a word
+abbrev pub word_text : Word → List ℕ
+word_text (Key text) = text.now
+word_text (Number n) = decimal n
+word_text (Escaped bytes) = escaped bytes.now
+
+-- a word behind another one
+abbrev pub next_word : Word → List ℕ
+next_word word = 32 ∷ word_text word
+
+-- a line of a key word and the words behind it
+unfoldable pub line_text : (key : List ℕ) → List Word → List ℕ
+line_text key words = key ++ (flat_map next_word words ++ 10 ∷ [])
+
+-- how a process ended, in a word and a number
+abbrev pub exit_key : Exit → List ℕ
+exit_key (Code n) = codes "code"
+exit_key (Signal n) = codes "signal"
+exit_key (Fault n) = codes "fault"
+exit_key (Lost n) = codes "lost"
+
+abbrev pub exit_number : Exit → ℕ
+exit_number (Code n) = n
+exit_number (Signal n) = n
+exit_number (Fault n) = n
+exit_number (Lost n) = n
+
+-- the status word that an exit has
+abbrev pub status_of : Exit → ℕ
+status_of (Code n) = n
+status_of (Signal n) = 0x100 + n
+status_of (Fault n) = 0x200 + n
+status_of (Lost n) = 0x300 + n
+
+-- the ranges that tell the exits apart
+abbrev pub IsExit : Exit → Type 0
+IsExit (Code n) = n < 0x100
+IsExit (Signal n) = n < 0x100
+IsExit (Fault n) = n < 0x100
+IsExit (Lost n) = Unit {0}
+
+-- how many lines of 64 bytes a tape takes
+abbrev pub tape_line_count : (tape : List ℕ) → ℕ
+tape_line_count tape = (length tape + 63) / 64

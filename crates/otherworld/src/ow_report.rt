@@ -1,0 +1,400 @@
+ghost use Rattle.std.specs.Prelude.{◌≡◌, ℕ, ◌+◌, ◌-◌, ◌^◌, ◌<◌, ◌≤◌, List, [], ◌∷◌, length, codes, decimal, flat_map, OnErr, Some};
+ghost use Rattle.ow_base.specs.Lines.{line, spaced, number_line, escaped};
+ghost use Rattle.ow_base.specs.Outside.{Rose, Writes};
+ghost use Rattle.ow_base.specs.Report.{head_text, ending_word, status_words, process_line, out_lines, tape_text, row_lines, trimmed, row_line_of, screen_text, terminal_text, report_of};
+ghost use Rattle.otherworld.specs.State.{unix_of, exit_of, IsRunOver};
+ghost use Rattle.otherworld.specs.Writing.{word_text, next_word, line_text, exit_key, exit_number, status_of, IsExit, tape_line_count};
+
+use crate::kernel_traps::{Kernel, Life};
+use itoa::Buffer;
+use ow_base::{Ending, Failed, Sink, put_all, put_escaped};
+use ow_plant::{Display, Plant};
+
+/// The pid of the one process.
+const PID: u32 = 1;
+
+/// How many bytes of a tape one line has.
+const TAPE_LINE: usize = 64;
+
+/// The rows of a screen.
+const ROWS: u32 = 24;
+
+/// The first status word of a signal. Those below are exit codes.
+const SIGNAL: u32 = 0x100;
+
+/// The first status word of a fault.
+const FAULT: u32 = 0x200;
+
+/// The first status word of a loss.
+const LOST: u32 = 0x300;
+
+/// A word of a line.
+#[derive(Clone, Copy, Debug)]
+enum Word<'a> {
+    /// A word that is written as it is.
+    Key(&'a [u8]),
+    /// A number, in decimal.
+    Number(u64),
+    /// Bytes, in escape text.
+    Escaped(&'a [u8]),
+}
+
+/// How a process ended.
+#[derive(Clone, Copy, Debug, PartialEq, Eq)]
+enum Exit {
+    Code(u32),
+    Signal(u32),
+    Fault(u32),
+    Lost(u32),
+}
+
+impl Exit {
+    /// What a status word says.
+    fn of_status(status: u32) -> Exit
+        ensures same { status_of result ≡ status }
+        ensures fits { IsExit result }
+    {
+        match status {
+            0..SIGNAL => Exit::Code(status),
+            SIGNAL..FAULT => Exit::Signal(status - SIGNAL),
+            FAULT..LOST => Exit::Fault(status - FAULT),
+            _ => Exit::Lost(status - LOST),
+        }
+    }
+
+    /// The word for how the process ended.
+    fn key(self) -> &'static [u8]
+        ensures { result.now ≡ exit_key self }
+    {
+        match self {
+            Exit::Code(_) => b"code",
+            Exit::Signal(_) => b"signal",
+            Exit::Fault(_) => b"fault",
+            Exit::Lost(_) => b"lost",
+        }
+    }
+
+    /// The code, or the number of the signal, the fault or the loss.
+    fn number(self) -> u32
+        ensures { result ≡ exit_number self }
+    {
+        match self {
+            Exit::Code(number) | Exit::Signal(number) | Exit::Fault(number) | Exit::Lost(number) =>
+                number,
+        }
+    }
+}
+
+/// Writes a number in decimal.
+fn put_count<K: Sink>(sink: &mut K, number: u64) -> Result<(), Failed>
+    ensures writes { Writes result (decimal number) (K.written sink.old) (K.written sink.new) }
+    ensures failed { OnErr result (Rose (K.faults sink.old) (K.faults sink.new)) }
+    ensures never_falls { K.faults sink.old ≤ K.faults sink.new }
+{
+    let mut buffer = Buffer::new();
+    put_all(sink, buffer.format(number).as_bytes())
+}
+
+/// Writes a word.
+fn put_word<K: Sink>(sink: &mut K, word: Word<'_>) -> Result<(), Failed>
+    ensures writes { Writes result (word_text word.entry) (K.written sink.old) (K.written sink.new) }
+    ensures failed { OnErr result (Rose (K.faults sink.old) (K.faults sink.new)) }
+    ensures never_falls { K.faults sink.old ≤ K.faults sink.new }
+{
+    match word {
+        Word::Key(text) => put_all(sink, text),
+        Word::Number(number) => put_count(sink, number),
+        Word::Escaped(bytes) => put_escaped(sink, bytes),
+    }
+}
+
+/// Writes a space and a word.
+fn put_next<K: Sink>(sink: &mut K, word: Word<'_>) -> Result<(), Failed>
+    ensures writes { Writes result (next_word word.entry) (K.written sink.old) (K.written sink.new) }
+    ensures failed { OnErr result (Rose (K.faults sink.old) (K.faults sink.new)) }
+    ensures never_falls { K.faults sink.old ≤ K.faults sink.new }
+{
+    match put_all(sink, b" ") {
+        Ok(()) => put_word(sink, word),
+        Err(Failed) => Err(Failed),
+    }
+}
+
+/// Writes words, each behind a space.
+fn put_words<K: Sink>(sink: &mut K, words: &[Word<'_>]) -> Result<(), Failed>
+    ensures writes { Writes result (flat_map next_word words.now) (K.written sink.old) (K.written sink.new) }
+    ensures failed { OnErr result (Rose (K.faults sink.old) (K.faults sink.new)) }
+    ensures never_falls { K.faults sink.old ≤ K.faults sink.new }
+{
+    for word in words {
+        match put_next(sink, *word) {
+            Ok(()) => {}
+            Err(Failed) => return Err(Failed),
+        }
+    }
+    Ok(())
+}
+
+/// Writes a line: a key word and the words behind it.
+fn put_line<K: Sink>(sink: &mut K, key: &[u8], words: &[Word<'_>]) -> Result<(), Failed>
+    ensures writes { Writes result (line_text key.now words.now) (K.written sink.old) (K.written sink.new) }
+    ensures failed { OnErr result (Rose (K.faults sink.old) (K.faults sink.new)) }
+    ensures never_falls { K.faults sink.old ≤ K.faults sink.new }
+{
+    match put_all(sink, key) {
+        Ok(()) => {}
+        Err(Failed) => return Err(Failed),
+    }
+    match put_words(sink, words) {
+        Ok(()) => put_all(sink, b"\n"),
+        Err(Failed) => Err(Failed),
+    }
+}
+
+/// Writes a line of a key word and a number.
+fn put_number_line<K: Sink>(sink: &mut K, key: &[u8], number: u32) -> Result<(), Failed>
+    ensures writes { Writes result (number_line key.now number) (K.written sink.old) (K.written sink.new) }
+    ensures failed { OnErr result (Rose (K.faults sink.old) (K.faults sink.new)) }
+    ensures never_falls { K.faults sink.old ≤ K.faults sink.new }
+{
+    put_line(sink, key, &[Word::Number(u64::from(number))])
+}
+
+/// The word of an ending.
+fn ending_key(ending: Ending) -> &'static [u8]
+    ensures { result.now ≡ ending_word ending }
+{
+    match ending {
+        Ending::Done => b"done",
+        Ending::Budget => b"budget",
+        Ending::Restarted => b"restart",
+    }
+}
+
+/// Writes the line of an ending.
+fn put_ending<K: Sink>(sink: &mut K, ending: Ending) -> Result<(), Failed>
+    ensures writes { Writes result (line (spaced (codes "ending") (ending_word ending))) (K.written sink.old) (K.written sink.new) }
+    ensures failed { OnErr result (Rose (K.faults sink.old) (K.faults sink.new)) }
+    ensures never_falls { K.faults sink.old ≤ K.faults sink.new }
+{
+    put_line(sink, b"ending", &[Word::Key(ending_key(ending))])
+}
+
+/// Writes the four lines that a report begins with.
+fn put_head<K: Sink>(sink: &mut K, ending: Ending, steps: u32, traps: u32) -> Result<(), Failed>
+    ensures writes { Writes result (head_text ending steps traps) (K.written sink.old) (K.written sink.new) }
+    ensures failed { OnErr result (Rose (K.faults sink.old) (K.faults sink.new)) }
+    ensures never_falls { K.faults sink.old ≤ K.faults sink.new }
+{
+    match put_all(sink, b"otherworld 1\n") {
+        Ok(()) => {}
+        Err(Failed) => return Err(Failed),
+    }
+    match put_ending(sink, ending) {
+        Ok(()) => {}
+        Err(Failed) => return Err(Failed),
+    }
+    match put_number_line(sink, b"steps", steps) {
+        Ok(()) => {}
+        Err(Failed) => return Err(Failed),
+    }
+    put_number_line(sink, b"traps", traps)
+}
+
+/// Writes how the process ended: a line of its pid and its exit.
+fn put_exit<K: Sink>(sink: &mut K, pid: u32, exit: Exit) -> Result<(), Failed>
+    requires { IsExit exit }
+    ensures writes { Writes result (process_line pid (Some (status_of exit))) (K.written sink.old) (K.written sink.new) }
+    ensures failed { OnErr result (Rose (K.faults sink.old) (K.faults sink.new)) }
+    ensures never_falls { K.faults sink.old ≤ K.faults sink.new }
+{
+    let pid = Word::Number(u64::from(pid));
+    let number = Word::Number(u64::from(exit.number()));
+    put_line(sink, b"exit", &[pid, Word::Key(exit.key()), number])
+}
+
+/// Writes the line of the process: how it ended, or that it is live.
+fn put_process<K: Sink>(sink: &mut K, pid: u32, life: &Life) -> Result<(), Failed>
+    ensures writes { Writes result (process_line pid (exit_of life.now)) (K.written sink.old) (K.written sink.new) }
+    ensures failed { OnErr result (Rose (K.faults sink.old) (K.faults sink.new)) }
+    ensures never_falls { K.faults sink.old ≤ K.faults sink.new }
+{
+    match life {
+        Life::Ended(status) => put_exit(sink, pid, Exit::of_status(*status)),
+        Life::Outside(_) | Life::Writing { .. } => put_number_line(sink, b"live", pid),
+    }
+}
+
+/// Writes the line of a piece of a tape.
+fn put_out_line<K: Sink>(sink: &mut K, bytes: &[u8]) -> Result<(), Failed>
+    ensures writes { Writes result (line (spaced (codes "out") (escaped bytes.now))) (K.written sink.old) (K.written sink.new) }
+    ensures failed { OnErr result (Rose (K.faults sink.old) (K.faults sink.new)) }
+    ensures never_falls { K.faults sink.old ≤ K.faults sink.new }
+{
+    put_line(sink, b"out", &[Word::Escaped(bytes)])
+}
+
+/// Writes a tape, 64 bytes a line, the last line shorter.
+fn put_out_lines<K: Sink>(sink: &mut K, tape: &[u8]) -> Result<(), Failed>
+    ensures writes { Writes result (out_lines (tape_line_count tape.now) tape.now) (K.written sink.old) (K.written sink.new) }
+    ensures failed { OnErr result (Rose (K.faults sink.old) (K.faults sink.new)) }
+    ensures never_falls { K.faults sink.old ≤ K.faults sink.new }
+{
+    let mut rest = tape;
+    while !rest.is_empty() {
+        let (bytes, others) = rest.split_at(rest.len().min(TAPE_LINE));
+        match put_out_line(sink, bytes) {
+            Ok(()) => rest = others,
+            Err(Failed) => return Err(Failed),
+        }
+    }
+    Ok(())
+}
+
+/// Writes the line of a terminal and its tape's length.
+fn put_tape_line<K: Sink>(sink: &mut K, tty: u32, length: usize) -> Result<(), Failed>
+    ensures writes { Writes result (line (spaced (spaced (codes "tty") (decimal tty)) (decimal length))) (K.written sink.old) (K.written sink.new) }
+    ensures failed { OnErr result (Rose (K.faults sink.old) (K.faults sink.new)) }
+    ensures never_falls { K.faults sink.old ≤ K.faults sink.new }
+{
+    put_line(
+        sink,
+        b"tty",
+        &[Word::Number(u64::from(tty)), Word::Number(length as u64)],
+    )
+}
+
+/// Writes the tape of a terminal.
+fn put_tape<K: Sink>(sink: &mut K, tty: u32, tape: &[u8]) -> Result<(), Failed>
+    ensures writes { Writes result (tape_text tty tape.now) (K.written sink.old) (K.written sink.new) }
+    ensures failed { OnErr result (Rose (K.faults sink.old) (K.faults sink.new)) }
+    ensures never_falls { K.faults sink.old ≤ K.faults sink.new }
+{
+    match put_tape_line(sink, tty, tape.len()) {
+        Ok(()) => put_out_lines(sink, tape),
+        Err(Failed) => Err(Failed),
+    }
+}
+
+/// The row without its trailing spaces.
+fn without_trailing_spaces(row: &[u8]) -> &[u8]
+    ensures { result.now ≡ trimmed row.now }
+{
+    let mut rest = row;
+    while let Some(front) = rest.strip_suffix(b" ") {
+        rest = front;
+    }
+    rest
+}
+
+/// Writes the line of a row, which has none if it is blank.
+fn put_row<K: Sink>(sink: &mut K, number: u32, row: &[u8]) -> Result<(), Failed>
+    ensures writes { Writes result (row_line_of number (trimmed row.now)) (K.written sink.old) (K.written sink.new) }
+    ensures failed { OnErr result (Rose (K.faults sink.old) (K.faults sink.new)) }
+    ensures never_falls { K.faults sink.old ≤ K.faults sink.new }
+{
+    let text = without_trailing_spaces(row);
+    if text.is_empty() {
+        return Ok(());
+    }
+    put_line(
+        sink,
+        b"row",
+        &[Word::Number(u64::from(number)), Word::Escaped(text)],
+    )
+}
+
+/// Writes the rows of a screen that are not blank.
+fn put_rows<K: Sink>(sink: &mut K, display: &Display) -> Result<(), Failed>
+    ensures writes { Writes result (row_lines 0 display.now.rows) (K.written sink.old) (K.written sink.new) }
+    ensures failed { OnErr result (Rose (K.faults sink.old) (K.faults sink.new)) }
+    ensures never_falls { K.faults sink.old ≤ K.faults sink.new }
+{
+    for number in 0..ROWS {
+        match put_row(sink, number, display.row(number)) {
+            Ok(()) => {}
+            Err(Failed) => return Err(Failed),
+        }
+    }
+    Ok(())
+}
+
+/// Writes the line of a screen: its terminal and where the cursor is.
+fn put_cursor<K: Sink>(sink: &mut K, tty: u32, row: u32, col: u32) -> Result<(), Failed>
+    ensures writes { Writes result (line (spaced (spaced (spaced (codes "screen") (decimal tty)) (decimal row)) (decimal col))) (K.written sink.old) (K.written sink.new) }
+    ensures failed { OnErr result (Rose (K.faults sink.old) (K.faults sink.new)) }
+    ensures never_falls { K.faults sink.old ≤ K.faults sink.new }
+{
+    let tty = Word::Number(u64::from(tty));
+    put_line(
+        sink,
+        b"screen",
+        &[
+            tty,
+            Word::Number(u64::from(row)),
+            Word::Number(u64::from(col)),
+        ],
+    )
+}
+
+/// Writes the screen of a terminal.
+fn put_screen<K: Sink>(sink: &mut K, tty: u32, display: &Display) -> Result<(), Failed>
+    ensures writes { Writes result (screen_text tty display.now) (K.written sink.old) (K.written sink.new) }
+    ensures failed { OnErr result (Rose (K.faults sink.old) (K.faults sink.new)) }
+    ensures never_falls { K.faults sink.old ≤ K.faults sink.new }
+{
+    let (row, col) = display.at();
+    match put_cursor(sink, tty, row, col) {
+        Ok(()) => put_rows(sink, display),
+        Err(Failed) => Err(Failed),
+    }
+}
+
+/// Writes a terminal: its tape and its screen.
+fn put_terminal<K: Sink>(
+    sink: &mut K,
+    tty: u32,
+    tape: &[u8],
+    display: &Display,
+) -> Result<(), Failed>
+    ensures writes { Writes result (terminal_text tty tape.now display.now) (K.written sink.old) (K.written sink.new) }
+    ensures failed { OnErr result (Rose (K.faults sink.old) (K.faults sink.new)) }
+    ensures never_falls { K.faults sink.old ≤ K.faults sink.new }
+{
+    match put_tape(sink, tty, tape) {
+        Ok(()) => put_screen(sink, tty, display),
+        Err(Failed) => Err(Failed),
+    }
+}
+
+/// Writes the report of a run that is over.
+///
+/// After `Failed`, which comes only where the sink failed, a front of it is written.
+pub fn write_report<K: Sink>(
+    sink: &mut K,
+    plant: &Plant,
+    kernel: &Kernel,
+    ending: Ending,
+) -> Result<(), Failed>
+    requires { IsRunOver plant.now }
+    ensures writes { Writes result (report_of ending (unix_of plant.now kernel.now)) (K.written sink.old) (K.written sink.new) }
+    ensures failed { OnErr result (Rose (K.faults sink.old) (K.faults sink.new)) }
+    ensures never_falls { K.faults sink.old ≤ K.faults sink.new }
+{
+    match put_head(sink, ending, plant.steps(), plant.traps()) {
+        Ok(()) => {}
+        Err(Failed) => return Err(Failed),
+    }
+    match put_process(sink, PID, &kernel.life) {
+        Ok(()) => {}
+        Err(Failed) => return Err(Failed),
+    }
+    match put_terminal(sink, 0, plant.tape(0), plant.display(0)) {
+        Ok(()) => {}
+        Err(Failed) => return Err(Failed),
+    }
+    match put_terminal(sink, 1, plant.tape(1), plant.display(1)) {
+        Ok(()) => put_all(sink, b"end\n"),
+        Err(Failed) => Err(Failed),
+    }
+}
