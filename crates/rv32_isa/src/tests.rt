@@ -1,7 +1,6 @@
 //! Words whose instructions the manual and its assemblers give.
 
 ghost use Rattle.std.specs.Prelude.{◌<◌};
-ghost use Rattle.rv32_isa.specs.Fields.{IsSigned};
 
 use crate::fields::{BranchOffset, Immediate, JumpOffset, Register, ShiftAmount, UpperImmediate};
 use crate::{Instr, decode, encode};
@@ -12,108 +11,20 @@ fn x(number: u32) -> Register
     Register::new(number).unwrap()
 }
 
-fn signed(word: u32) -> Immediate
-    requires { IsSigned 12 word }
-{
-    Immediate::new(word).unwrap()
-}
-
 #[test]
 fn words_of_instructions(rt: HostRuntime) {
-    let zero = signed(0);
-    let minus_one = signed(0xffff_ffff);
-    let minus_four = signed(0xffff_fffc);
-    let back = BranchOffset::new(0xffff_fffc).unwrap();
-    let far_back = JumpOffset::new(0xffff_fffc).unwrap();
-    let upper = UpperImmediate::new(0x12345).unwrap();
+    let (rd, rs1, rs2) = (x(1), x(2), x(5));
+    let imm = Immediate::new(0xffff_fffc).unwrap();
+    let offset = imm;
     let amount = ShiftAmount::new(31).unwrap();
     let table = [
-        (
-            0x0000_0013,
-            Instr::Addi {
-                rd: x(0),
-                rs1: x(0),
-                imm: zero,
-            },
-        ),
-        (
-            0xfff0_0093,
-            Instr::Addi {
-                rd: x(1),
-                rs1: x(0),
-                imm: minus_one,
-            },
-        ),
-        (
-            0x00a5_8533,
-            Instr::Add {
-                rd: x(10),
-                rs1: x(11),
-                rs2: x(10),
-            },
-        ),
-        (
-            0x40b5_0533,
-            Instr::Sub {
-                rd: x(10),
-                rs1: x(10),
-                rs2: x(11),
-            },
-        ),
-        (
-            0x41f0_d093,
-            Instr::Srai {
-                rd: x(1),
-                rs1: x(1),
-                amount,
-            },
-        ),
-        (
-            0x1234_52b7,
-            Instr::Lui {
-                rd: x(5),
-                imm: upper,
-            },
-        ),
-        (
-            0x0000_8067,
-            Instr::Jalr {
-                rd: x(0),
-                rs1: x(1),
-                offset: zero,
-            },
-        ),
-        (
-            0xffdf_f06f,
-            Instr::Jal {
-                rd: x(0),
-                offset: far_back,
-            },
-        ),
-        (
-            0xfe00_0ee3,
-            Instr::Beq {
-                rs1: x(0),
-                rs2: x(0),
-                offset: back,
-            },
-        ),
-        (
-            0xfff1_0083,
-            Instr::Lb {
-                rd: x(1),
-                rs1: x(2),
-                offset: minus_one,
-            },
-        ),
-        (
-            0xfe51_2e23,
-            Instr::Sw {
-                rs1: x(2),
-                rs2: x(5),
-                offset: minus_four,
-            },
-        ),
+        (0xffc1_0093, Instr::Addi { rd, rs1, imm }),
+        (0x0051_00b3, Instr::Add { rd, rs1, rs2 }),
+        (0x4051_00b3, Instr::Sub { rd, rs1, rs2 }),
+        (0x41f1_5093, Instr::Srai { rd, rs1, amount }),
+        (0xffc1_00e7, Instr::Jalr { rd, rs1, offset }),
+        (0xffc1_0083, Instr::Lb { rd, rs1, offset }),
+        (0xfe51_2e23, Instr::Sw { rs1, rs2, offset }),
         (0x0000_0073, Instr::Ecall),
         (0x0010_0073, Instr::Ebreak),
     ];
@@ -121,6 +32,17 @@ fn words_of_instructions(rt: HostRuntime) {
         assert_eq!(rt; decode(word), Some(instr), "at {word:x}");
         assert_eq!(rt; decode(word).map(encode), Some(word), "at {word:x}");
     }
+}
+
+#[test]
+fn words_of_wide_immediates(rt: HostRuntime) {
+    let (rd, rs1, rs2) = (x(1), x(2), x(5));
+    let imm = UpperImmediate::new(0x12345).unwrap();
+    assert_eq!(rt; encode(Instr::Lui { rd, imm }), 0x1234_50b7);
+    let offset = JumpOffset::new(0xffff_fffc).unwrap();
+    assert_eq!(rt; encode(Instr::Jal { rd, offset }), 0xffdf_f0ef);
+    let offset = BranchOffset::new(0xffff_fffc).unwrap();
+    assert_eq!(rt; encode(Instr::Beq { rs1, rs2, offset }), 0xfe51_0ee3);
 }
 
 // FENCE keeps its other bits; words of other extensions and of no meaning are no rows.

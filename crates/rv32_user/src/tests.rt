@@ -1,7 +1,9 @@
 //! One step at a time over a space of 64 bytes. The words and values are worked out from the manual.
 
 ghost use Rattle.std.specs.Prelude.{◌≡◌, ◌<◌, ◌+◌, ◌^◌, slice_index};
-ghost use Rattle.rv32_user.specs.SmallSpace.{number_at};
+ghost use Rattle.ow_base.specs.UserStep.{user_step};
+ghost use Rattle.rv32_user.specs.SmallSpace.{number_at, small_space};
+ghost use Rattle.rv32_user.specs.Step.{ends};
 
 use crate::space::Space;
 use crate::stepping::{StepEnd, step};
@@ -99,16 +101,25 @@ impl Space for Memory {
     }
 }
 
-// What is left after the instruction at address 8, with these values in x1 and x2.
+// A processor and its memory.
 #[derive(Drop)]
-struct Ran {
-    end: StepEnd,
+struct Machine {
     regs: Regs,
     pc: u32,
     memory: Memory,
 }
 
-fn run(word: u32, x1: u32, x2: u32) -> Ran {
+impl Machine {
+    fn step(&mut self) -> StepEnd
+        ensures exact { ends result self.new.regs self.new.pc self.new.memory.bytes
+            ≡ user_step small_space self.old.regs self.old.pc self.old.memory.bytes }
+    {
+        step(&mut self.regs, &mut self.pc, &mut self.memory)
+    }
+}
+
+// How the instruction at address 8 ends, with these values in x1 and x2, and what is left after it.
+fn run(word: u32, x1: u32, x2: u32) -> (StepEnd, Machine) {
     let mut memory = Memory { bytes: [0; 64] };
     let [a, b, c, d] = word.to_le_bytes();
     memory.bytes[8] = a;
@@ -122,14 +133,13 @@ fn run(word: u32, x1: u32, x2: u32) -> Ran {
     let mut regs = Regs::new();
     regs.set(1, x1);
     regs.set(2, x2);
-    let mut pc = 8;
-    let end = step(&mut regs, &mut pc, &mut memory);
-    Ran {
-        end,
+    let mut machine = Machine {
         regs,
-        pc,
+        pc: 8,
         memory,
-    }
+    };
+    let end = machine.step();
+    (end, machine)
 }
 
 // The value of x3 after a word that sets it, with these values in x1 and x2.
@@ -165,10 +175,10 @@ fn values(rt: HostRuntime) {
         ("lw -4", 0xffc0_a183, 36, 0, 0x017f_ff80),
     ];
     for (name, word, x1, x2, want) in table {
-        let ran = run(word, x1, x2);
-        assert_eq!(rt; ran.end, StepEnd::Next, "{name}");
-        assert_eq!(rt; ran.regs.get(3), want, "{name}");
-        assert_eq!(rt; ran.pc, 12, "{name}");
+        let (end, machine) = run(word, x1, x2);
+        assert_eq!(rt; end, StepEnd::Next, "{name}");
+        assert_eq!(rt; machine.regs.get(3), want, "{name}");
+        assert_eq!(rt; machine.pc, 12, "{name}");
     }
 }
 
@@ -196,17 +206,17 @@ fn targets(rt: HostRuntime) {
         ("fence", 0x0ff0_000f, 0, 0, 12, 0),
     ];
     for (name, word, x1, x2, pc, x3) in table {
-        let ran = run(word, x1, x2);
-        assert_eq!(rt; ran.end, StepEnd::Next, "{name}");
-        assert_eq!(rt; ran.pc, pc, "{name}");
-        assert_eq!(rt; ran.regs.get(3), x3, "{name}");
+        let (end, machine) = run(word, x1, x2);
+        assert_eq!(rt; end, StepEnd::Next, "{name}");
+        assert_eq!(rt; machine.pc, pc, "{name}");
+        assert_eq!(rt; machine.regs.get(3), x3, "{name}");
     }
     // The target is formed from x1 before x1 takes the address behind the instruction.
-    let ran = run(0x0000_80e7, 0x20, 0);
-    assert_eq!(rt; (ran.pc, ran.regs.get(1)), (0x20, 12));
+    let (_, machine) = run(0x0000_80e7, 0x20, 0);
+    assert_eq!(rt; (machine.pc, machine.regs.get(1)), (0x20, 12));
     // x0 takes nothing.
-    let ran = run(0x0050_8013, 1, 0);
-    assert_eq!(rt; (ran.end, ran.regs.get(0)), (StepEnd::Next, 0));
+    let (end, machine) = run(0x0050_8013, 1, 0);
+    assert_eq!(rt; (end, machine.regs.get(0)), (StepEnd::Next, 0));
 }
 
 // Words that end in a fault: its cause and its value.
@@ -234,15 +244,15 @@ fn faults(rt: HostRuntime) {
         ("sw in code", 0x0020_a023, 4, 15, 4),
     ];
     for (name, word, x1, cause, value) in table {
-        let ran = run(word, x1, 7);
-        assert_eq!(rt; ran.end, StepEnd::Fault(Fault { cause, value }), "{name}");
+        let (end, machine) = run(word, x1, 7);
+        assert_eq!(rt; end, StepEnd::Fault(Fault { cause, value }), "{name}");
         assert_eq!(rt;
-            (ran.pc, ran.regs.get(1), ran.regs.get(3)),
+            (machine.pc, machine.regs.get(1), machine.regs.get(3)),
             (8, x1, 0),
             "{name}"
         );
     }
-    assert_eq!(rt; run(0x0000_0073, 0, 0).end, StepEnd::Call);
+    assert_eq!(rt; run(0x0000_0073, 0, 0).0, StepEnd::Call);
 }
 
 // The low bytes of x2 that each store writes.
@@ -254,8 +264,8 @@ fn stores(rt: HostRuntime) {
         (0x0020_a023, 0x1122_3344),
     ];
     for (word, want) in table {
-        let ran = run(word, 32, 0x1122_3344);
-        assert_eq!(rt; (ran.end, ran.memory.word(32)), (StepEnd::Next, want));
+        let (end, machine) = run(word, 32, 0x1122_3344);
+        assert_eq!(rt; (end, machine.memory.word(32)), (StepEnd::Next, want));
     }
 }
 
