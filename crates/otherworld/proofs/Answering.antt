@@ -27,17 +27,17 @@ length-bytes_at pages a (suc n) = ap suc (length-bytes_at pages (a + 1) n)
 
 -- a piece that is stopped
 pub stops : (tty done : ℕ) (bank : Bank) (s : PlantState) → s.in_user ≡ false
-  → is_readable (pages_of s.pages) (register bank.regs 11 + done) (tty_piece (register bank.regs 12) done) ≡ false
-  → IsMadeBy (λ u p. tty_write u 1 p tty done) tty bank s s (stopped_life bank done 14)
+    → is_readable (pages_of s.pages) (register bank.regs 11 + done) (tty_piece (register bank.regs 12) done) ≡ false
+    → IsMadeBy (λ u p. tty_write u 1 p tty done) tty bank s s (stopped_life bank done 14)
 unfolding tty_write
 stops tty done bank s h unreadable o call live = rw unreadable (answers tty (cond (nat_eq done 0) (minus 14) done) bank s h o call live)
 
 -- a piece that is written, and then either answers or stays in the call
 pub writes_piece : (tty done : ℕ) (bank : Bank) (s : PlantState) → s.in_user ≡ false → tty < 2
-  → is_readable (pages_of s.pages) (register bank.regs 11 + done) (tty_piece (register bank.regs 12) done) ≡ true
-  → IsMadeBy (λ u p. tty_write u 1 p tty done) tty bank s
-      (with_puts s tty (bytes_at (pages_of s.pages) (register bank.regs 11 + done) (tty_piece (register bank.regs 12) done)))
-      (written_life bank (done + tty_piece (register bank.regs 12) done) (register bank.regs 12))
+    → is_readable (pages_of s.pages) (register bank.regs 11 + done) (tty_piece (register bank.regs 12) done) ≡ true
+    → IsMadeBy (λ u p. tty_write u 1 p tty done) tty bank s
+    (with_puts s tty (bytes_at (pages_of s.pages) (register bank.regs 11 + done) (tty_piece (register bank.regs 12) done)))
+    (written_life bank (done + tty_piece (register bank.regs 12) done) (register bank.regs 12))
 unfolding tty_write unix_of answered stays_in
 writes_piece tty done bank s h which readable (Outside b) call live = rw readable (grind (arith, common_steps))
 writes_piece tty done bank s h which readable (Writing b d) call live = rw readable (grind (arith, common_steps))
@@ -70,8 +70,8 @@ unfolding write_entry
 write_entry-closed tty bank old new life h made o call live = rw (description_of-closed old tty o call bank (pages_of old.pages) (register bank.regs 10) h) (made o call live)
 
 pub write_entry-open : (tty : ℕ) (bank : Bank) (old new : PlantState) (life : Life) → register bank.regs 10 ≤ 2
-  → IsMadeBy (λ u p. cond (nat_lt 0x7fffffff (register bank.regs 12)) (answered u 1 p (minus 22)) (cond (nat_eq (register bank.regs 12) 0) (answered u 1 p 0) (tty_write u 1 p tty 0))) tty bank old new life
-  → IsMadeBy (λ u p. write_entry u 1 p) tty bank old new life
+    → IsMadeBy (λ u p. cond (nat_lt 0x7fffffff (register bank.regs 12)) (answered u 1 p (minus 22)) (cond (nat_eq (register bank.regs 12) 0) (answered u 1 p 0) (tty_write u 1 p tty 0))) tty bank old new life
+    → IsMadeBy (λ u p. write_entry u 1 p) tty bank old new life
 unfolding write_entry
 write_entry-open tty bank old new life h made o call live = rw (description_of-open old tty o call bank (pages_of old.pages) (register bank.regs 10) h) (made o call live)
 
@@ -89,7 +89,7 @@ pub write_entry-none : (tty : ℕ) (bank : Bank) (s : PlantState) → s.in_user 
 write_entry-none tty bank s k h none = write_entry-open tty bank s s _ h (λ o call live. rw none (answers tty 0 bank s k o call live))
 
 pub write_entry-piece : (tty : ℕ) (bank : Bank) (old new : PlantState) (life : Life) → register bank.regs 10 ≤ 2 → nat_lt 0x7fffffff (register bank.regs 12) ≡ false → nat_eq (register bank.regs 12) 0 ≡ false
-  → IsMadeBy (λ u p. tty_write u 1 p tty 0) tty bank old new life → IsMadeBy (λ u p. write_entry u 1 p) tty bank old new life
+    → IsMadeBy (λ u p. tty_write u 1 p tty 0) tty bank old new life → IsMadeBy (λ u p. write_entry u 1 p) tty bank old new life
 write_entry-piece tty bank old new life h small some made = write_entry-open tty bank old new life h (λ o call live. rw (small, some) (made o call live))
 
 -- the call with a number

@@ -19,7 +19,7 @@ with_words-none pages first r words = grind (arith, common_steps)
 
 -- the bytes of a page of words are theirs
 byte_in_block : (words block : List ℕ) (first k a : ℕ) → ((j : ℕ) → j < 1024 → get_or block j 0 ≡ get_or words (1024 * k + j) 0) → a / 4096 ≡ first + k
-  → byte_of_words block (a % 4096) ≡ byte_of_words words (a - 4096 * first)
+    → byte_of_words block (a % 4096) ≡ byte_of_words words (a - 4096 * first)
 byte_in_block words block first k a same h =
     let place : (a - 4096 * first) / 4 ≡ 1024 * k + a % 4096 / 4 = omega arith in
     let low : (a - 4096 * first) % 4 ≡ a % 4096 % 4 = omega arith in
@@ -37,13 +37,13 @@ is_within-other : (first k p : ℕ) → nat_eq p (first + k) ≡ false → is_wi
 is_within-other first k p h = grind arith
 
 rights_more : (pages : Pages) (first k : ℕ) (r : Rights) (words block : List ℕ) (b : Bool) (p : ℕ) → nat_eq p (first + k) ≡ b
-  → cond b (Some r) ((with_words pages first k r words).rights p) ≡ (with_words pages first (k + 1) r words).rights p
+    → cond b (Some r) ((with_words pages first k r words).rights p) ≡ (with_words pages first (k + 1) r words).rights p
 unfolding with_words
 rights_more pages first k r words block true p h = let at : p ≡ first + k = grind arith in rw (at, is_within-last first k) refl
 rights_more pages first k r words block false p h = rw (is_within-other first k p h) refl
 
 bytes_more : (pages : Pages) (first k : ℕ) (r : Rights) (words block : List ℕ) (b : Bool) (a : ℕ) → ((j : ℕ) → j < 1024 → get_or block j 0 ≡ get_or words (1024 * k + j) 0) → nat_eq (a / 4096) (first + k) ≡ b
-  → cond b (byte_of_words block (a % 4096)) ((with_words pages first k r words).bytes a) ≡ (with_words pages first (k + 1) r words).bytes a
+    → cond b (byte_of_words block (a % 4096)) ((with_words pages first k r words).bytes a) ≡ (with_words pages first (k + 1) r words).bytes a
 unfolding with_words
 bytes_more pages first k r words block true a same h =
     let at : a / 4096 ≡ first + k = grind arith in
@@ -53,11 +53,11 @@ bytes_more pages first k r words block false a same h = rw (is_within-other firs
 
 -- one page more is placed
 pub with_words-more : (pages : Pages) (first k : ℕ) (r : Rights) (words block : List ℕ) → ((j : ℕ) → j < 1024 → get_or block j 0 ≡ get_or words (1024 * k + j) 0)
-  → with_page (with_words pages first k r words) (first + k) r block ≡ with_words pages first (k + 1) r words
+    → with_page (with_words pages first k r words) (first + k) r block ≡ with_words pages first (k + 1) r words
 with_words-more pages first k r words block same =
     pages_equal (with_page (with_words pages first k r words) (first + k) r block) (with_words pages first (k + 1) r words)
-      (λ p. rights_more pages first k r words block _ p refl)
-      (λ a. bytes_more pages first k r words block _ a same refl)
+    (λ p. rights_more pages first k r words block _ p refl)
+    (λ a. bytes_more pages first k r words block _ a same refl)
 
 -- the page behind those placed is not placed
 pub with_words-fresh : (pages : Pages) (first k : ℕ) (r : Rights) (words : List ℕ) (page : ℕ) → is_within first k page ≡ false → pages.rights page ≡ None → (with_words pages first k r words).rights page ≡ None
@@ -82,8 +82,8 @@ within_behind first count page h = grind arith
 loaded_byte : (cp dp : ℕ) (code values : List ℕ) (a : ℕ) → ℕ
 loaded_byte cp dp code values a =
     cond (is_within 0x7fffc 4 (a / 4096)) (byte_of_words [] (a - 2147467264))
-      (cond (is_within (16 + cp) dp (a / 4096)) (byte_of_words values (a - 4096 * (16 + cp)))
-        (cond (is_within 16 cp (a / 4096)) (byte_of_words code (a - 65536)) 0))
+    (cond (is_within (16 + cp) dp (a / 4096)) (byte_of_words values (a - 4096 * (16 + cp)))
+    (cond (is_within 16 cp (a / 4096)) (byte_of_words code (a - 65536)) 0))
 
 byte_before : (cp dp : ℕ) (code values : List ℕ) (a : ℕ) → a < 65536 → loaded_byte cp dp code values a ≡ 0
 unfolding loaded_byte
@@ -133,12 +133,12 @@ module _ (code values : List ℕ) (few : length code ≤ 65536) (few_values : le
   loaded_bytes : (a : ℕ) → loaded_byte (page_count code) (page_count values) code values a ≡ started_byte code values a
   loaded_bytes a =
       elim (cases_lt a 65536) [
-        inl h ↦ byte_before (page_count code) (page_count values) code values a h ∙ sym (starts_before a h)
-      | inr h ↦ elim (cases_lt a (65536 + 4096 * page_count code)) [
-          inl k ↦ byte_of_code (page_count code) (page_count values) code values a (omega arith) h k ∙ sym (starts_code a h k)
-        | inr k ↦ elim (cases_lt a (65536 + 4096 * page_count code + 4096 * page_count values)) [
-            inl m ↦ byte_of_values (page_count code) (page_count values) code values a (omega arith) (omega arith) k m ∙ sym (starts_values a k)
-          | inr m ↦ byte_behind (page_count code) (page_count values) code values a (omega arith) (omega arith) m ∙ sym (starts_values a k ∙ byte_past values (a - (65536 + 4096 * page_count code)) (omega arith))
+        | inl h ↦ byte_before (page_count code) (page_count values) code values a h ∙ sym (starts_before a h)
+        | inr h ↦ elim (cases_lt a (65536 + 4096 * page_count code)) [
+          | inl k ↦ byte_of_code (page_count code) (page_count values) code values a (omega arith) h k ∙ sym (starts_code a h k)
+          | inr k ↦ elim (cases_lt a (65536 + 4096 * page_count code + 4096 * page_count values)) [
+            | inl m ↦ byte_of_values (page_count code) (page_count values) code values a (omega arith) (omega arith) k m ∙ sym (starts_values a k)
+            | inr m ↦ byte_behind (page_count code) (page_count values) code values a (omega arith) (omega arith) m ∙ sym (starts_values a k ∙ byte_past values (a - (65536 + 4096 * page_count code)) (omega arith))
           ]
         ]
       ]
@@ -149,7 +149,7 @@ module _ (code values : List ℕ) (few : length code ≤ 65536) (few_values : le
   loaded_rights p = grind arith
 
 pub with_words-program : (program : Program) → length program.code ≤ 65536 → length program.values ≤ 65536
-  → with_words (with_words (with_words no_pages 16 (page_count program.code) Code program.code) (16 + page_count program.code) (page_count program.values) Values program.values) 0x7fffc 4 Values [] ≡ started_pages program
+    → with_words (with_words (with_words no_pages 16 (page_count program.code) Code program.code) (16 + page_count program.code) (page_count program.values) Values program.values) 0x7fffc 4 Values [] ≡ started_pages program
 unfolding with_words started_pages loaded_byte
 with_words-program program few few_values =
     pages_equal _ _ (loaded_rights program.code program.values few few_values) (loaded_bytes program.code program.values few few_values)

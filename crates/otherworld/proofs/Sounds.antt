@@ -48,15 +48,15 @@ put_terminal t bytes n budget few h = record {
 
 -- an instruction keeps the rights of the pages
 next_rights_by : (s new : PlantState) (low : Bool) (made : Stepped Pages) → KeepsRights (pages_of s.pages) made
-  → MatchBool low (StepsAs s new end.Next made) ((end.Next ≡ end.Slice) × (new ≡ s))
-  → ((pages_of new.pages).rights ≡ (pages_of s.pages).rights) × (new ≡ record s { pages = new.pages; bank = new.bank; slice = s.slice + 1; steps = risen s.steps })
+    → MatchBool low (StepsAs s new end.Next made) ((end.Next ≡ end.Slice) × (new ≡ s))
+    → ((pages_of new.pages).rights ≡ (pages_of s.pages).rights) × (new ≡ record s { pages = new.pages; bank = new.bank; slice = s.slice + 1; steps = risen s.steps })
 next_rights_by s new false made k m = absurd (cc m.0)
 next_rights_by s new true Call k m = absurd (cc m.0)
 next_rights_by s new true (Faulted fault) k m = absurd (cc m.0)
 next_rights_by s new true (Next regs pc pages) k m = (ap (λ (p : Pages). p.rights) m.1 ∙ k, grind (arith, common_steps, m.3))
 
 next_kept : (s : PlantState) (pages : PageStore) (bank : Bank) (k : Kernel) → IsSound s k → s.steps < s.shape.budget → (pages_of pages).rights ≡ (pages_of s.pages).rights
-  → IsTurned s (record s { pages = pages; bank = bank; slice = s.slice + 1; steps = risen s.steps }) k
+    → IsTurned s (record s { pages = pages; bank = bank; slice = s.slice + 1; steps = risen s.steps }) k
 next_kept s pages bank k sound few kept =
     let one_more : risen s.steps ≡ s.steps + 1 = omega (arith, sound.small) in
     record {
@@ -88,8 +88,8 @@ in_trap s = record s { in_user = false; traps = risen s.traps; steps = risen s.s
 
 -- a trap in which the terminals become these
 trap_kept : (s : PlantState) (tty : ℕ) (life : Life) (t0 t1 : Device) (k : Kernel) → IsSound s k → s.steps < s.shape.budget → tty < 2
-  → IsTerminalSound t0 (s.steps + 1) s.shape.budget → IsTerminalSound t1 (s.steps + 1) s.shape.budget
-  → IsLifeSound (record (in_trap s) { tty0 = t0; tty1 = t1 }) life → IsTurned s (record (in_trap s) { tty0 = t0; tty1 = t1 }) (kernel_in tty life)
+    → IsTerminalSound t0 (s.steps + 1) s.shape.budget → IsTerminalSound t1 (s.steps + 1) s.shape.budget
+    → IsLifeSound (record (in_trap s) { tty0 = t0; tty1 = t1 }) life → IsTurned s (record (in_trap s) { tty0 = t0; tty1 = t1 }) (kernel_in tty life)
 trap_kept s tty life t0 t1 k sound few which sound0 sound1 alive =
     let step_more : risen s.steps ≡ s.steps + 1 = omega (arith, sound.small) in
     let trap_more : risen s.traps ≡ s.traps + 1 = omega (arith, sound.small, sound.few_traps) in
@@ -113,7 +113,7 @@ trap_kept s tty life t0 t1 k sound few which sound0 sound1 alive =
 
 -- a trap of the process in which its terminal takes a piece
 served_kept : (s : PlantState) (tty : ℕ) (life : Life) (bytes : List ℕ) (k : Kernel) → IsSound s k → s.steps < s.shape.budget → tty < 2
-  → length bytes ≤ 16 → IsLifeSound (with_puts (in_trap s) tty bytes) life → IsTurned s (with_puts (in_trap s) tty bytes) (kernel_in tty life)
+    → length bytes ≤ 16 → IsLifeSound (with_puts (in_trap s) tty bytes) life → IsTurned s (with_puts (in_trap s) tty bytes) (kernel_in tty life)
 served_kept s zero life bytes k sound few which short alive =
     trap_kept s 0 life (puts_on s.tty0 bytes) s.tty1 k sound few which (put_terminal s.tty0 bytes s.steps s.shape.budget short sound.tty0) (kept_terminal s.tty1 s.steps s.shape.budget sound.tty1) alive
 served_kept s (suc zero) life bytes k sound few which short alive =
@@ -123,7 +123,7 @@ served_kept s (suc (suc n)) life bytes k sound few which short alive = absurd (o
 pub served_sound : (s new : PlantState) (k : Kernel) (life : Life) → IsSound s k → s.steps < s.shape.budget → IsServed k.tty (in_trap s) new life → IsTurned s new (kernel_in k.tty life)
 served_sound s new k life sound few served =
     subst (λ (n : PlantState). IsTurned s n (kernel_in k.tty life)) (sym served.put)
-      (served_kept s k.tty life served.bytes k sound few sound.tty served.few (subst (λ (n : PlantState). IsLifeSound n life) served.put served.sound))
+    (served_kept s k.tty life served.bytes k sound few sound.tty served.few (subst (λ (n : PlantState). IsLifeSound n life) served.put served.sound))
 
 -- in a trap the plant is in the kernel, with room for a piece
 room_of : (s : PlantState) (tty : ℕ) (k : Kernel) → IsSound s k → s.steps < s.shape.budget → tty < 2 → length (tty_of (in_trap s) tty).tape + 16 ≤ (tty_of (in_trap s) tty).room
@@ -142,7 +142,7 @@ service_of s k sound few = record {
 
 -- a fault of a user turn has a small cause
 small_by : (s new : PlantState) (fault : Fault) (low : Bool) (made : Stepped Pages) → KeepsRights (pages_of s.pages) made
-  → MatchBool low (StepsAs s new (end.Fault fault) made) ((end.Fault fault ≡ end.Slice) × (new ≡ s)) → fault.cause < 16
+    → MatchBool low (StepsAs s new (end.Fault fault) made) ((end.Fault fault ≡ end.Slice) × (new ≡ s)) → fault.cause < 16
 small_by s new fault false made k m = absurd (cc m.0)
 small_by s new fault true Call k m = absurd (cc m.0)
 small_by s new fault true (Faulted other) k m = let same : fault ≡ other = cc m.0 in rw same k

@@ -41,8 +41,8 @@ silent s room e f (suc (suc n)) =
 
 -- the state after boot, part by part
 pub start_of-booted : (load : Load) (program : Program) (start : Started) (s : PlantState) (room : ℕ) → IsBuilt load program start
-  → s.in_user ≡ false → pages_of s.pages ≡ started_pages program → s.tty0 ≡ silent_device room → s.tty1 ≡ silent_device room → s.steps ≡ 0 → s.traps ≡ 0
-  → unix_of s (record { tty = start.tty; last = 0; life = Outside started_bank }) ≡ start_of load
+    → s.in_user ≡ false → pages_of s.pages ≡ started_pages program → s.tty0 ≡ silent_device room → s.tty1 ≡ silent_device room → s.steps ≡ 0 → s.traps ≡ 0
+    → unix_of s (record { tty = start.tty; last = 0; life = Outside started_bank }) ≡ start_of load
 unfolding unix_of start_of
 start_of-booted load program start s room built idle pages tty0 tty1 steps traps =
     rw (idle, pages, steps, traps) (λ i. record {
@@ -76,8 +76,8 @@ started_within cp dp page few few_values past = grind arith
 
 -- the state after boot is sound
 pub IsSound-booted : (program : Program) (s : PlantState) (tty : ℕ) (b : Bank) → length program.code ≤ 65536 → length program.values ≤ 65536 → tty < 2 → s.shape.budget ≤ 2000000
-  → s.armed ≡ true → pages_of s.pages ≡ started_pages program → s.tty0 ≡ silent_device (16 * s.shape.budget) → s.tty1 ≡ silent_device (16 * s.shape.budget) → s.steps ≡ 0 → s.traps ≡ 0 → s.history ≡ []
-  → IsSound s (record { tty = tty; last = 0; life = Outside b })
+    → s.armed ≡ true → pages_of s.pages ≡ started_pages program → s.tty0 ≡ silent_device (16 * s.shape.budget) → s.tty1 ≡ silent_device (16 * s.shape.budget) → s.steps ≡ 0 → s.traps ≡ 0 → s.history ≡ []
+    → IsSound s (record { tty = tty; last = 0; life = Outside b })
 unfolding started_pages
 IsSound-booted program s tty b few few_values which small armed pages tty0 tty1 steps traps history = record {
   armed = armed;

@@ -22,7 +22,7 @@ use Rattle.otherworld.specs.Top.{PlantAgrees, IsRead, IsReported, IsRun, IsNoWor
 
 -- an input that is read whole and is no world
 pub no_world : (left after : Option (List ℕ)) (bytes : List ℕ) → TakesAll left after bytes → length bytes ≤ most_bytes → ((world : World) → IsWorld bytes world → ⊥)
-  → OnTold left (λ told. (length told ≤ most_bytes) × ((world : World) → IsWorld told world → ⊥))
+    → OnTold left (λ told. (length told ≤ most_bytes) × ((world : World) → IsWorld told world → ⊥))
 no_world None after bytes takes small none = tt
 no_world (Some told) after bytes takes small none = (rw (← takes.0) small, λ world value. none world (subst (λ (b : List ℕ). IsWorld b world) (sym takes.0) value))
 

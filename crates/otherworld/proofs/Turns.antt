@@ -35,14 +35,14 @@ at_user q s tty last b h = rw h refl
 
 -- a trap of the process in user mode counts
 pub traps_user : (s : PlantState) (tty last : ℕ) (b : Bank) (c : Came) → (entered s c ≡ record s { in_user = false; traps = risen s.traps; steps = risen s.steps }) → s.in_user ≡ true → s.steps < 2 ^ 32 - 1 → s.traps < 2 ^ 32 - 1
-  → unix_of (entered s c) (kernel_in tty (Outside s.bank)) ≡ trapped (unix_of s (record { tty = tty; last = last; life = Outside b })) 1
+    → unix_of (entered s c) (kernel_in tty (Outside s.bank)) ≡ trapped (unix_of s (record { tty = tty; last = last; life = Outside b })) 1
 unfolding unix_of trapped
 traps_user s tty last b c e h steps traps = rw (e, h) (grind (arith, common_steps))
 
 -- an instruction
 next_by : (s new : PlantState) (tty last : ℕ) (b : Bank) (low : Bool) (made : Stepped Pages) → s.in_user ≡ true → s.steps < 2 ^ 32 - 1 → nat_lt s.slice s.shape.quantum ≡ low → user_step page_space s.bank.regs s.bank.pc (pages_of s.pages) ≡ made
-  → MatchBool low (StepsAs s new end.Next made) ((end.Next ≡ end.Slice) × (new ≡ s))
-  → unix_of new (kernel_at tty last b) ≡ user_turn s.shape.quantum (unix_of s (kernel_at tty last b)) 1 s.slice (Some (process_in Out s.bank (pages_of s.pages)))
+    → MatchBool low (StepsAs s new end.Next made) ((end.Next ≡ end.Slice) × (new ≡ s))
+    → unix_of new (kernel_at tty last b) ≡ user_turn s.shape.quantum (unix_of s (kernel_at tty last b)) 1 s.slice (Some (process_in Out s.bank (pages_of s.pages)))
 unfolding unix_of user_turn stepped step_of kernel_at
 next_by s new tty last b false made h few e f m = absurd (cc m.0)
 next_by s new tty last b true Call h few e f m = absurd (cc m.0)
@@ -50,13 +50,13 @@ next_by s new tty last b true (Faulted fault) h few e f m = absurd (cc m.0)
 next_by s new tty last b true (Next regs pc pages) h few e f m = rw (e, f, h) (grind (arith, common_steps, m))
 
 pub next_turn : (s new : PlantState) (tty last : ℕ) (b : Bank) → s.in_user ≡ true → s.steps < 2 ^ 32 - 1 → TakesUserTurn s new end.Next
-  → unix_of new (record { tty = tty; last = last; life = Outside b }) ≡ turn_at s.shape.quantum (unix_of s (record { tty = tty; last = last; life = Outside b })) (unix_of s (record { tty = tty; last = last; life = Outside b })).position
+    → unix_of new (record { tty = tty; last = last; life = Outside b }) ≡ turn_at s.shape.quantum (unix_of s (record { tty = tty; last = last; life = Outside b })) (unix_of s (record { tty = tty; last = last; life = Outside b })).position
 unfolding kernel_at
 next_turn s new tty last b h few taken = next_by s new tty last b _ _ h few refl refl taken ∙ sym (at_user s.shape.quantum s tty last b h)
 
 -- what a user turn answers, but for an instruction: the end of the slice, a call or a fault; the plant stays
 slice_by : (s new : PlantState) (low : Bool) (made : Stepped Pages) → nat_lt s.slice s.shape.quantum ≡ low
-  → MatchBool low (StepsAs s new end.Slice made) ((end.Slice ≡ end.Slice) × (new ≡ s)) → (nat_lt s.slice s.shape.quantum ≡ false) × (new ≡ s)
+    → MatchBool low (StepsAs s new end.Slice made) ((end.Slice ≡ end.Slice) × (new ≡ s)) → (nat_lt s.slice s.shape.quantum ≡ false) × (new ≡ s)
 slice_by s new false made e m = (e, m.1)
 slice_by s new true Call e m = absurd (cc m.0)
 slice_by s new true (Faulted fault) e m = absurd (cc m.0)
@@ -66,7 +66,7 @@ pub slice_taken : (s new : PlantState) → TakesUserTurn s new end.Slice → (na
 slice_taken s new taken = slice_by s new _ _ refl taken
 
 call_by : (s new : PlantState) (low : Bool) (made : Stepped Pages) → nat_lt s.slice s.shape.quantum ≡ low → user_step page_space s.bank.regs s.bank.pc (pages_of s.pages) ≡ made
-  → MatchBool low (StepsAs s new end.Call made) ((end.Call ≡ end.Slice) × (new ≡ s)) → (nat_lt s.slice s.shape.quantum ≡ true) × (user_step page_space s.bank.regs s.bank.pc (pages_of s.pages) ≡ Call) × (new ≡ s)
+    → MatchBool low (StepsAs s new end.Call made) ((end.Call ≡ end.Slice) × (new ≡ s)) → (nat_lt s.slice s.shape.quantum ≡ true) × (user_step page_space s.bank.regs s.bank.pc (pages_of s.pages) ≡ Call) × (new ≡ s)
 call_by s new false made e f m = absurd (cc m.0)
 call_by s new true Call e f m = (e, f, m.1)
 call_by s new true (Faulted fault) e f m = absurd (cc m.0)
@@ -76,7 +76,7 @@ pub call_taken : (s new : PlantState) → TakesUserTurn s new end.Call → (nat_
 call_taken s new taken = call_by s new _ _ refl refl taken
 
 fault_by : (s new : PlantState) (fault : Fault) (low : Bool) (made : Stepped Pages) → nat_lt s.slice s.shape.quantum ≡ low → user_step page_space s.bank.regs s.bank.pc (pages_of s.pages) ≡ made
-  → MatchBool low (StepsAs s new (end.Fault fault) made) ((end.Fault fault ≡ end.Slice) × (new ≡ s)) → (nat_lt s.slice s.shape.quantum ≡ true) × (user_step page_space s.bank.regs s.bank.pc (pages_of s.pages) ≡ Faulted fault) × (new ≡ s)
+    → MatchBool low (StepsAs s new (end.Fault fault) made) ((end.Fault fault ≡ end.Slice) × (new ≡ s)) → (nat_lt s.slice s.shape.quantum ≡ true) × (user_step page_space s.bank.regs s.bank.pc (pages_of s.pages) ≡ Faulted fault) × (new ≡ s)
 fault_by s new fault false made e f m = absurd (cc m.0)
 fault_by s new fault true Call e f m = absurd (cc m.0)
 fault_by s new fault true (Faulted other) e f m = let same : fault ≡ other = cc m.0 in (e, rw same f, m.1)
@@ -87,15 +87,15 @@ fault_taken s new fault taken = fault_by s new fault _ _ refl refl taken
 
 -- the end of a slice
 pub slice_turn : (s : PlantState) (tty last : ℕ) (b : Bank) → s.in_user ≡ true → s.steps < 2 ^ 32 - 1 → s.traps < 2 ^ 32 - 1 → nat_lt s.slice s.shape.quantum ≡ false
-  → unix_of (entered s came.User) (kernel_in tty (Outside s.bank)) ≡ turn_at s.shape.quantum (unix_of s (record { tty = tty; last = last; life = Outside b })) (unix_of s (record { tty = tty; last = last; life = Outside b })).position
+    → unix_of (entered s came.User) (kernel_in tty (Outside s.bank)) ≡ turn_at s.shape.quantum (unix_of s (record { tty = tty; last = last; life = Outside b })) (unix_of s (record { tty = tty; last = last; life = Outside b })).position
 unfolding user_turn kernel_at
 slice_turn s tty last b h steps traps e = traps_user s tty last b came.User refl h steps traps ∙ sym (at_user s.shape.quantum s tty last b h ∙ rw e refl)
 
 -- a call
 pub call_turn : (s new : PlantState) (tty last : ℕ) (b : Bank) (life : Life) → s.in_user ≡ true → s.steps < 2 ^ 32 - 1 → s.traps < 2 ^ 32 - 1 → nat_lt s.slice s.shape.quantum ≡ true
-  → user_step page_space s.bank.regs s.bank.pc (pages_of s.pages) ≡ Call
-  → IsMadeBy (λ u p. called u 1 p (call_number p)) tty s.bank (entered s came.Call) new life
-  → unix_of new (kernel_in tty life) ≡ turn_at s.shape.quantum (unix_of s (record { tty = tty; last = last; life = Outside b })) (unix_of s (record { tty = tty; last = last; life = Outside b })).position
+    → user_step page_space s.bank.regs s.bank.pc (pages_of s.pages) ≡ Call
+    → IsMadeBy (λ u p. called u 1 p (call_number p)) tty s.bank (entered s came.Call) new life
+    → unix_of new (kernel_in tty life) ≡ turn_at s.shape.quantum (unix_of s (record { tty = tty; last = last; life = Outside b })) (unix_of s (record { tty = tty; last = last; life = Outside b })).position
 unfolding user_turn stepped step_of call_entered kernel_at
 call_turn s new tty last b life h steps traps e f made =
     made (Outside s.bank) Out tt
@@ -109,8 +109,8 @@ ends_so t tty b status = grind (arith, common_steps)
 
 -- a fault
 pub fault_turn : (s : PlantState) (tty last : ℕ) (b : Bank) (fault : Fault) → s.in_user ≡ true → s.steps < 2 ^ 32 - 1 → s.traps < 2 ^ 32 - 1 → nat_lt s.slice s.shape.quantum ≡ true
-  → user_step page_space s.bank.regs s.bank.pc (pages_of s.pages) ≡ Faulted fault
-  → unix_of (entered s came.User) (kernel_in tty (Ended (0x200 + fault.cause))) ≡ turn_at s.shape.quantum (unix_of s (record { tty = tty; last = last; life = Outside b })) (unix_of s (record { tty = tty; last = last; life = Outside b })).position
+    → user_step page_space s.bank.regs s.bank.pc (pages_of s.pages) ≡ Faulted fault
+    → unix_of (entered s came.User) (kernel_in tty (Ended (0x200 + fault.cause))) ≡ turn_at s.shape.quantum (unix_of s (record { tty = tty; last = last; life = Outside b })) (unix_of s (record { tty = tty; last = last; life = Outside b })).position
 unfolding user_turn stepped step_of kernel_at
 fault_turn s tty last b fault h steps traps e f =
     ends_so (entered s came.User) tty s.bank (0x200 + fault.cause)
@@ -138,7 +138,7 @@ in_kernel s k h = rw h refl
 
 -- control returns to a process outside a call
 pub settles_outside : (s : PlantState) (tty last : ℕ) (b : Bank) → last ≤ 1 → s.in_user ≡ false
-  → settled (unix_of s (record { tty = tty; last = last; life = Outside b })) ≡ unix_of (returned_to s 1 b) (kernel_in tty (Outside b))
+    → settled (unix_of s (record { tty = tty; last = last; life = Outside b })) ≡ unix_of (returned_to s 1 b) (kernel_in tty (Outside b))
 unfolding unix_of
 settles_outside s tty last b h k =
     settles_by (unix_of s (record { tty = tty; last = last; life = Outside b })) 1 (process_in Out b (pages_of s.pages)) (in_kernel s (record { tty = tty; last = last; life = Outside b }) k) (chosen_one s tty last (Outside b) h tt) (rw k refl)
@@ -146,7 +146,7 @@ settles_outside s tty last b h k =
 
 -- one in a call stays in the kernel
 pub settles_writing : (s : PlantState) (tty last : ℕ) (b : Bank) (d : ℕ) → last ≤ 1 → s.in_user ≡ false
-  → settled (unix_of s (record { tty = tty; last = last; life = Writing b d })) ≡ unix_of s (record { tty = tty; last = last; life = Writing b d })
+    → settled (unix_of s (record { tty = tty; last = last; life = Writing b d })) ≡ unix_of s (record { tty = tty; last = last; life = Writing b d })
 unfolding unix_of
 settles_writing s tty last b d h k =
     settles_by (unix_of s (record { tty = tty; last = last; life = Writing b d })) 1 (process_in (In 2 d) b (pages_of s.pages)) (in_kernel s (record { tty = tty; last = last; life = Writing b d }) k) (chosen_one s tty last (Writing b d) h tt) refl
@@ -167,13 +167,13 @@ one s tty last b done = refl
 
 -- a trap in the kernel counts
 traps_kernel : (s : PlantState) (tty last done : ℕ) (b : Bank) → s.in_user ≡ false → s.steps < 2 ^ 32 - 1 → s.traps < 2 ^ 32 - 1
-  → unix_of (entered s came.Kernel) (kernel_in tty (Writing b done)) ≡ trapped (unix_of s (record { tty = tty; last = last; life = Writing b done })) 1
+    → unix_of (entered s came.Kernel) (kernel_in tty (Writing b done)) ≡ trapped (unix_of s (record { tty = tty; last = last; life = Writing b done })) 1
 unfolding unix_of trapped
 traps_kernel s tty last done b h steps traps = rw h (grind (arith, common_steps))
 
 -- the turn of a process in a call
 at_kernel : (q : ℕ) (s : PlantState) (tty last : ℕ) (b : Bank) (done : ℕ) → last ≤ 1
-  → turn_at q (unix_of s (record { tty = tty; last = last; life = Writing b done })) AtKernel ≡ continued (trapped (unix_of s (record { tty = tty; last = last; life = Writing b done })) 1) 1 (process_in (In 2 done) b (pages_of s.pages)) 2 done
+    → turn_at q (unix_of s (record { tty = tty; last = last; life = Writing b done })) AtKernel ≡ continued (trapped (unix_of s (record { tty = tty; last = last; life = Writing b done })) 1) 1 (process_in (In 2 done) b (pages_of s.pages)) 2 done
 at_kernel q s tty last b done h =
     at_kernel_by q (unix_of s (record { tty = tty; last = last; life = Writing b done })) (process_in (In 2 done) b (pages_of s.pages)) 2 done (chosen_one s tty last (Writing b done) h tt) (one s tty last b done) refl
 
@@ -184,9 +184,9 @@ continues_by u p tty done d = ap (piece_on u 1 p done) d
 
 -- a further piece of a write that the process is in
 pub piece_turn : (s new : PlantState) (tty last done : ℕ) (b : Bank) (life : Life) → last ≤ 1 → s.in_user ≡ false → s.steps < 2 ^ 32 - 1 → s.traps < 2 ^ 32 - 1
-  → (description_of (unix_of (entered s came.Kernel) (kernel_in tty (Writing b done))) (process_in (In 2 done) b (pages_of s.pages)) (register b.regs 10) ≡ the_description tty 0)
-  → IsMadeBy (λ u p. tty_write u 1 p tty done) tty b (entered s came.Kernel) new life
-  → unix_of new (kernel_in tty life) ≡ turn_at s.shape.quantum (unix_of s (record { tty = tty; last = last; life = Writing b done })) AtKernel
+    → (description_of (unix_of (entered s came.Kernel) (kernel_in tty (Writing b done))) (process_in (In 2 done) b (pages_of s.pages)) (register b.regs 10) ≡ the_description tty 0)
+    → IsMadeBy (λ u p. tty_write u 1 p tty done) tty b (entered s came.Kernel) new life
+    → unix_of new (kernel_in tty life) ≡ turn_at s.shape.quantum (unix_of s (record { tty = tty; last = last; life = Writing b done })) AtKernel
 piece_turn s new tty last done b life h k steps traps d made =
     made (Writing b done) (In 2 done) tt
     ∙ sym (continues_by (unix_of (entered s came.Kernel) (kernel_in tty (Writing b done))) (process_in (In 2 done) b (pages_of s.pages)) tty done d)
@@ -203,12 +203,12 @@ in_kernel_at = in_kernel
 
 -- the closing trap, of a process in user mode, and of none
 pub closes_user : (s : PlantState) (tty last : ℕ) (b : Bank) → s.in_user ≡ true → s.traps < 2 ^ 32 - 1
-  → unix_of (entered s came.Closing) (record { tty = tty; last = last; life = Outside s.bank }) ≡ closed (unix_of s (record { tty = tty; last = last; life = Outside b }))
+    → unix_of (entered s came.Closing) (record { tty = tty; last = last; life = Outside s.bank }) ≡ closed (unix_of s (record { tty = tty; last = last; life = Outside b }))
 unfolding unix_of closed
 closes_user s tty last b h traps = rw h (grind (arith, common_steps))
 
 pub closes_kernel : (s : PlantState) (tty last : ℕ) (life : Life) → s.in_user ≡ false → s.traps < 2 ^ 32 - 1
-  → unix_of (entered s came.Closing) (record { tty = tty; last = last; life = life }) ≡ closed (unix_of s (record { tty = tty; last = last; life = life }))
+    → unix_of (entered s came.Closing) (record { tty = tty; last = last; life = life }) ≡ closed (unix_of s (record { tty = tty; last = last; life = life }))
 unfolding unix_of closed
 closes_kernel s tty last (Outside b) h traps = rw h (grind (arith, common_steps))
 closes_kernel s tty last (Writing b d) h traps = rw h (grind (arith, common_steps))
@@ -220,7 +220,7 @@ unfolding ending_of unix_of is_any_live
 ending_of-ended shape s tty last status = refl
 
 pub ending_of-live : (shape : Shape) (s : PlantState) (tty last : ℕ) (life : Life) → IsLive life
-  → ending_of shape (unix_of s (record { tty = tty; last = last; life = life })) ≡ cond (nat_eq s.steps shape.budget) (Some Budget) None
+    → ending_of shape (unix_of s (record { tty = tty; last = last; life = life })) ≡ cond (nat_eq s.steps shape.budget) (Some Budget) None
 unfolding ending_of unix_of is_any_live
 ending_of-live shape s tty last (Outside b) live = refl
 ending_of-live shape s tty last (Writing b d) live = refl
@@ -228,7 +228,7 @@ ending_of-live shape s tty last (Ended st) live = absurd live
 
 -- a run goes on by a turn, and ends with the closing trap
 pub run_more : (shape : Shape) (u v : Unix) → ending_of shape u ≡ None → v ≡ turn shape u
-  → (e : Ending) (w : Unix) → RunsFrom shape v [] e w → RunsFrom shape u [] e w
+    → (e : Ending) (w : Unix) → RunsFrom shape v [] e w → RunsFrom shape u [] e w
 run_more shape u v none made e w later = goes_on u [] e w none (subst (λ (x : Unix). RunsFrom shape x [] e w) made later)
 
 pub run_ends : (shape : Shape) (u v : Unix) (e : Ending) → ending_of shape u ≡ Some e → v ≡ closed u → RunsFrom shape u [] e v

@@ -14,11 +14,14 @@ const PAGE_WORDS: usize = 1024;
 
 /// The page where a program's code begins, at 0x10000, and that where its four pages of stack begin.
 const CODE_PAGE: u32 = 16;
+
 const STACK_PAGE: u32 = 0x7fffc;
+
 const STACK_PAGES: u32 = 4;
 
 /// The stack pointer that a program starts with, and its register.
 const STACK_START: u32 = 0x7fff_fff0;
+
 const STACK_POINTER: u32 = 2;
 
 /// The address where the code begins.
@@ -74,7 +77,13 @@ pub fn boot(plant: &mut Plant, program: &Program, start: &Start) -> Kernel
     let code_pages = pages_for(program.code.items());
     let values_pages = pages_for(program.values.items());
     place_words(plant, CODE_PAGE, code_pages, false, program.code.items());
-    place_words(plant, CODE_PAGE + code_pages, values_pages, true, program.values.items());
+    place_words(
+        plant,
+        CODE_PAGE + code_pages,
+        values_pages,
+        true,
+        program.values.items(),
+    );
     place_words(plant, STACK_PAGE, STACK_PAGES, true, &[]);
     let mut regs = Regs::new();
     regs.set(STACK_POINTER, STACK_START);

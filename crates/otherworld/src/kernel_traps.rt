@@ -29,6 +29,7 @@ const LAST_DESCRIPTOR: u32 = 2;
 
 /// The numbers of the calls.
 const EXIT: u32 = 1;
+
 const WRITE: u32 = 2;
 
 /// The status word of a fault is this and its cause.
@@ -160,12 +161,7 @@ fn written(bank: &Bank, done: u32, count: u32) -> Life
 }
 
 /// One piece of a write, of which so many bytes are done: at most 16 bytes on the terminal.
-fn write_piece(
-    plant: &mut Plant,
-    tty: u32,
-    bank: &Bank,
-    done: u32,
-) -> Result<Life, Panicked>
+fn write_piece(plant: &mut Plant, tty: u32, bank: &Bank, done: u32) -> Result<Life, Panicked>
     requires service { IsInService plant.old tty }
     requires writing { IsWriting bank.now done }
     ensures ok { IsOk result }
@@ -258,7 +254,12 @@ fn user_turn(plant: &mut Plant, kernel: &mut Kernel) -> Result<(), Panicked>
 }
 
 /// A further piece of the write that the process is in. It is a trap of its own.
-fn piece_turn(plant: &mut Plant, kernel: &mut Kernel, bank: &Bank, done: u32) -> Result<(), Panicked>
+fn piece_turn(
+    plant: &mut Plant,
+    kernel: &mut Kernel,
+    bank: &Bank,
+    done: u32,
+) -> Result<(), Panicked>
     requires sound { IsSound plant.old kernel.old }
     requires writing { kernel.old.life ≡ Life.Writing bank.now done }
     requires budget { plant.old.steps < plant.old.shape.budget }

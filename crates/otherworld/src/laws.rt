@@ -9,5 +9,4 @@ ghost use Rattle.ow_base.specs.declared.worlds.PanicRecord.{PanicRecord};
 pub fn one_run()
     ensures { (world : World) (history : List PanicRecord) (a b : Ending) (v w : Unix) →
         Run world history a v → Run world history b w → (a ≡ b) × (v ≡ w) }
-{
-}
+{}

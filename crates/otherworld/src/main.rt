@@ -9,13 +9,12 @@ mod schedule_runner;
 mod top;
 
 pub use laws::one_run;
-pub use top::{Status, Why, otherworld};
-
 use ow_base::{StdSink, StdSource};
 use ow_plant::Plant;
 use std::alloc::{AllocError, Global};
 use std::env::{Args, args};
 use std::process::ExitCode;
+pub use top::{Status, Why, otherworld};
 
 #[cfg(test)]
 mod tests;
@@ -40,6 +39,12 @@ fn main(rt: HostRuntime) -> ExitCode {
     let mut source = StdSource::new(rt.stdin());
     let mut sink = StdSink::new(rt.stdout());
     let mut plant = Plant::new(rt.alloc());
-    let status = otherworld(rt.alloc(), words.as_slice(), &mut source, &mut sink, &mut plant);
+    let status = otherworld(
+        rt.alloc(),
+        words.as_slice(),
+        &mut source,
+        &mut sink,
+        &mut plant,
+    );
     ExitCode::from(status.code())
 }

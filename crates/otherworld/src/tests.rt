@@ -1,109 +1,419 @@
 use super::*;
 use ow_base::{MemSink, MemSource};
+use std::test::Fail;
 
-// A world of one program, which is started once.
-fn world_text(alloc: Global, budget: &str, code: &str, values: &str) -> Result<Vec<u8>, AllocError> {
-    let text = format!(
-        in alloc;
-        "world 1\nframes 32\nsectors 4\nquantum 100\nbudget {budget}\nprogram a\ncode {code}\n{values}start a 0\nend\n"
+const HI: &str = "00100513 000115b7 00300613 00200893 00000073 00000513 00100893 00000073";
+
+const HI_REPORT: &str =
+    "otherworld 1\nending done\nsteps 8\ntraps 3\nexit 1 code 0\ntty 0 3\nout Hi\\n\nscreen 0 1 0\nrow 0 Hi\ntty 1 0\nscreen 1 0 0\nend\n";
+
+const SILENT: &str = "tty 0 0\nscreen 0 0 0\ntty 1 0\nscreen 1 0 0\nend\n";
+
+// A world of one program, which is started once. The data is whole lines.
+fn world_text(
+    alloc: Global,
+    limits: &str,
+    code: &str,
+    values: &str,
+) -> Result<Vec<u8>, AllocError> {
+    let text = format!(in alloc;
+        "world 1\nframes 32\nsectors 4\n{limits}\nprogram a\ncode {code}\n{values}start a 0\nend\n"
     )?;
     Vec::from_slice(alloc, text.as_bytes())
 }
 
-// What the program answers to an input, with ample memory and room.
+// What the program answers to an input, with ample memory and room, and what it writes.
 fn answer_to(
     alloc: Global,
     word: &str,
-    input: Vec<u8>,
-    read_fails: Vec<u32>,
+    source: &mut MemSource,
     write_fails: Vec<u32>,
 ) -> Result<(Status, MemSink), AllocError> {
     let mut words = Vec::new(alloc);
     words.push(String::from_str(alloc, word)?)?;
-    let mut source = MemSource::new(input, read_fails);
     let mut sink = MemSink::new(vec![in alloc; 0; 16384]?, write_fails);
     let mut plant = Plant::new(alloc);
-    let status = otherworld(alloc, words.as_slice(), &mut source, &mut sink, &mut plant);
+    let status = otherworld(alloc, words.as_slice(), source, &mut sink, &mut plant);
     Ok((status, sink))
 }
 
-const HI: &str = "00100513 000115b7 00300613 00200893 00000073 00000513 00100893 00000073";
-
-const HI_REPORT: &str = "otherworld 1\nending done\nsteps 8\ntraps 3\nexit 1 code 0\ntty 0 3\nout Hi\\n\nscreen 0 1 0\nrow 0 Hi\ntty 1 0\nscreen 1 0 0\nend\n";
-
 #[test]
-fn worlds_run_to_their_reports(rt: HostRuntime) -> Result<(), std::test::Fail> {
+fn programs_end_as_their_rows_say(rt: HostRuntime) -> Result<(), Fail> {
     let alloc = rt.alloc();
+    let usual = "quantum 100\nbudget 1000";
+    // limits, code, status, ending with its counts and the process, the terminals
     let rows = [
         (
-            "1000",
+            usual,
             "00700513 00100893 00000073",
-            "",
             Status::Done,
-            "otherworld 1\nending done\nsteps 3\ntraps 2\nexit 1 code 7\ntty 0 0\nscreen 0 0 0\ntty 1 0\nscreen 1 0 0\nend\n",
+            "done\nsteps 3\ntraps 2\nexit 1 code 7",
+            SILENT,
         ),
-        ("1000", HI, "data 000a6948\n", Status::Done, HI_REPORT),
         (
-            "0",
+            "quantum 100\nbudget 0",
             "00700513 00100893 00000073",
-            "",
             Status::Budget,
-            "otherworld 1\nending budget\nsteps 0\ntraps 1\nlive 1\ntty 0 0\nscreen 0 0 0\ntty 1 0\nscreen 1 0 0\nend\n",
+            "budget\nsteps 0\ntraps 1\nlive 1",
+            SILENT,
         ),
         (
-            "1000",
+            "quantum 4\nbudget 10",
+            "0000006f",
+            Status::Budget,
+            "budget\nsteps 10\ntraps 3\nlive 1",
+            SILENT,
+        ),
+        (
+            usual,
             "00010537 00a52023",
-            "",
             Status::Done,
-            "otherworld 1\nending done\nsteps 2\ntraps 2\nexit 1 fault 15\ntty 0 0\nscreen 0 0 0\ntty 1 0\nscreen 1 0 0\nend\n",
+            "done\nsteps 2\ntraps 2\nexit 1 fault 15",
+            SILENT,
+        ),
+        (
+            usual,
+            "ffffffff",
+            Status::Done,
+            "done\nsteps 1\ntraps 2\nexit 1 fault 2",
+            SILENT,
+        ),
+        (
+            usual,
+            "00102503",
+            Status::Done,
+            "done\nsteps 1\ntraps 2\nexit 1 fault 4",
+            SILENT,
+        ),
+        // a closed descriptor, a count that is none, no bytes, a call that is none: a0 is the exit code
+        (
+            usual,
+            "00300513 00200893 00000073 00100893 00000073",
+            Status::Done,
+            "done\nsteps 5\ntraps 3\nexit 1 code 247",
+            SILENT,
+        ),
+        (
+            usual,
+            "00100513 fff00613 00200893 00000073 00100893 00000073",
+            Status::Done,
+            "done\nsteps 6\ntraps 3\nexit 1 code 234",
+            SILENT,
+        ),
+        (
+            usual,
+            "00100513 00200893 00000073 00100893 00000073",
+            Status::Done,
+            "done\nsteps 5\ntraps 3\nexit 1 code 0",
+            SILENT,
+        ),
+        (
+            usual,
+            "00c00893 00000073 00100893 00000073",
+            Status::Done,
+            "done\nsteps 4\ntraps 3\nexit 1 code 218",
+            SILENT,
+        ),
+        // a write that starts in the last byte of the address space
+        (
+            usual,
+            "00100513 fff00593 01000613 00200893 00000073 00100893 00000073",
+            Status::Done,
+            "done\nsteps 7\ntraps 3\nexit 1 code 242",
+            SILENT,
         ),
     ];
-    for (budget, code, values, status, report) in rows {
-        let input = world_text(alloc, budget, code, values)?;
-        let (answer, sink) = answer_to(alloc, "run", input, Vec::new(alloc), Vec::new(alloc))?;
+    for (limits, code, status, head, terminals) in rows {
+        let mut source = MemSource::new(world_text(alloc, limits, code, "")?, Vec::new(alloc));
+        let (answer, sink) = answer_to(alloc, "run", &mut source, Vec::new(alloc))?;
         assert_eq!(rt; answer, status, "{code}");
-        assert_eq!(rt; sink.written(), report.as_bytes(), "{code}");
+        let wanted = format!(in alloc; "otherworld 1\nending {head}\n{terminals}")?;
+        assert_eq!(rt; sink.written(), wanted.as_bytes(), "{code}");
+        assert!(rt; source.left().is_empty(), "{code}");
     }
     Ok(())
 }
 
 #[test]
-fn refusals_have_their_texts(rt: HostRuntime) -> Result<(), std::test::Fail> {
+fn writes_stop_at_the_page_that_is_not_there(rt: HostRuntime) -> Result<(), Fail> {
     let alloc = rt.alloc();
-    let hi = world_text(alloc, "1000", HI, "data 000a6948\n")?;
-    let (answer, sink) = answer_to(alloc, "fly", hi, Vec::new(alloc), Vec::new(alloc))?;
-    assert_eq!(rt; answer, Status::Usage);
+    // the last bytes of the data page, so many of them, the count asked for, the exit code
+    let rows = [
+        ("ff858593", 0usize, "02000613", 242u32, 6u32),
+        ("ff058593", 16, "02000613", 16, 7),
+        ("fe058593", 32, "04000613", 32, 8),
+        ("fe058593", 32, "03000613", 32, 8),
+        ("ff058593", 16, "01000613", 16, 6),
+    ];
+    for (back, bytes, count, code, calls) in rows {
+        let words = format!(in alloc;
+            "00100513 000125b7 {back} {count} 00200893 00000073 00100893 00000073"
+        )?;
+        let text = world_text(
+            alloc,
+            "quantum 100\nbudget 1000",
+            words.as_str(),
+            "data 00000001\n",
+        )?;
+        let (answer, sink) = answer_to(
+            alloc,
+            "run",
+            &mut MemSource::new(text, Vec::new(alloc)),
+            Vec::new(alloc),
+        )?;
+        assert_eq!(rt; answer, Status::Done);
+        let steps = calls + 2;
+        let traps = calls - 3;
+        let mut wanted = format!(in alloc;
+            "otherworld 1\nending done\nsteps {steps}\ntraps {traps}\nexit 1 code {code}\ntty 0 {bytes}\n"
+        )?;
+        if bytes > 0 {
+            wanted.push_str("out ")?;
+            for _ in 0..bytes {
+                wanted.push_str("\\x00")?;
+            }
+            wanted.push_str("\n")?;
+        }
+        wanted.push_str("screen 0 0 0\ntty 1 0\nscreen 1 0 0\nend\n")?;
+        assert_eq!(rt; sink.written(), wanted.as_bytes(), "{words}");
+    }
+    Ok(())
+}
+
+#[test]
+fn screens_scroll(rt: HostRuntime) -> Result<(), Fail> {
+    let alloc = rt.alloc();
+    let feeds = "00100513 000115b7 01900613 00200893 00000073 00000513 00100893 00000073";
+    let text = world_text(
+        alloc,
+        "quantum 100\nbudget 1000",
+        feeds,
+        "data 0a0a0a0a 0a0a0a0a 0a0a0a0a 0a0a0a0a 0a0a0a0a 0a0a0a0a 00000041\n",
+    )?;
+    let (answer, sink) = answer_to(
+        alloc,
+        "run",
+        &mut MemSource::new(text, Vec::new(alloc)),
+        Vec::new(alloc),
+    )?;
+    assert_eq!(rt; answer, Status::Done);
+    let mut wanted = String::from_str(
+        alloc,
+        "otherworld 1\nending done\nsteps 9\ntraps 4\nexit 1 code 0\ntty 0 25\nout ",
+    )?;
+    for _ in 0..24 {
+        wanted.push_str("\\n")?;
+    }
+    wanted.push_str("A\nscreen 0 23 1\nrow 23 A\ntty 1 0\nscreen 1 0 0\nend\n")?;
+    assert_eq!(rt; sink.written(), wanted.as_bytes());
+    Ok(())
+}
+
+#[test]
+fn a_screen_full_of_letters_scrolls_once(rt: HostRuntime) -> Result<(), Fail> {
+    let alloc = rt.alloc();
+    let letters = "00100513 000115b7 78000613 00200893 00000073 00000513 00100893 00000073";
+    let mut values = String::new(alloc);
+    for _ in 0..30 {
+        values.push_str(
+            "data 41414141 41414141 41414141 41414141 41414141 41414141 41414141 41414141 41414141 41414141 41414141 41414141 41414141 41414141 41414141 41414141\n",
+        )?;
+    }
+    let text = world_text(alloc, "quantum 100\nbudget 1000", letters, values.as_str())?;
+    let (answer, sink) = answer_to(
+        alloc,
+        "run",
+        &mut MemSource::new(text, Vec::new(alloc)),
+        Vec::new(alloc),
+    )?;
+    assert_eq!(rt; answer, Status::Done);
+    let mut wanted = String::from_str(
+        alloc,
+        "otherworld 1\nending done\nsteps 127\ntraps 122\nexit 1 code 0\ntty 0 1920\n",
+    )?;
+    for _ in 0..30 {
+        wanted.push_str("out AAAAAAAAAAAAAAAAAAAAAAAAAAAAAAAAAAAAAAAAAAAAAAAAAAAAAAAAAAAAAAAA\n")?;
+    }
+    wanted.push_str("screen 0 23 0\n")?;
+    for row in 0u32..23 {
+        let line = format!(in alloc;
+            "row {row} AAAAAAAAAAAAAAAAAAAAAAAAAAAAAAAAAAAAAAAAAAAAAAAAAAAAAAAAAAAAAAAAAAAAAAAAAAAAAAAA\n"
+        )?;
+        wanted.push_str(line.as_str())?;
+    }
+    wanted.push_str("tty 1 0\nscreen 1 0 0\nend\n")?;
+    assert_eq!(rt; sink.written(), wanted.as_bytes());
+    Ok(())
+}
+
+#[test]
+fn a_budget_may_end_inside_a_write(rt: HostRuntime) -> Result<(), Fail> {
+    let alloc = rt.alloc();
+    let code = "00100513 000115b7 03000613 00200893 00000073 00000513 00100893 00000073";
+    // after so many steps: the traps with the closing one, and the bytes of `A` that are out
+    let rows = [
+        (0u32, 1u32, 0usize),
+        (1, 1, 0),
+        (2, 1, 0),
+        (3, 1, 0),
+        (4, 1, 0),
+        (5, 2, 16),
+        (6, 3, 32),
+        (7, 4, 48),
+        (8, 4, 48),
+        (9, 4, 48),
+    ];
+    for (budget, traps, bytes) in rows {
+        let limits = format!(in alloc; "quantum 100\nbudget {budget}")?;
+        let values =
+            "data 41414141 41414141 41414141 41414141 41414141 41414141 41414141 41414141 41414141 41414141 41414141 41414141\n";
+        let text = world_text(alloc, limits.as_str(), code, values)?;
+        let (answer, sink) = answer_to(
+            alloc,
+            "run",
+            &mut MemSource::new(text, Vec::new(alloc)),
+            Vec::new(alloc),
+        )?;
+        assert_eq!(rt; answer, Status::Budget, "{budget}");
+        let mut letters = String::new(alloc);
+        for _ in 0..bytes {
+            letters.push_str("A")?;
+        }
+        let shown = letters.as_str();
+        let mut wanted = format!(in alloc;
+            "otherworld 1\nending budget\nsteps {budget}\ntraps {traps}\nlive 1\ntty 0 {bytes}\n"
+        )?;
+        if bytes > 0 {
+            let lines = format!(in alloc; "out {shown}\nscreen 0 0 {bytes}\nrow 0 {shown}\n")?;
+            wanted.push_str(lines.as_str())?;
+        } else {
+            wanted.push_str("screen 0 0 0\n")?;
+        }
+        wanted.push_str("tty 1 0\nscreen 1 0 0\nend\n")?;
+        assert_eq!(rt; sink.written(), wanted.as_bytes(), "{budget}");
+    }
+    Ok(())
+}
+
+#[test]
+fn refusals_have_their_texts(rt: HostRuntime) -> Result<(), Fail> {
+    let alloc = rt.alloc();
     let usage = "usage: otherworld run | run --evidence | asm | gen N\n";
+    let not_built = Status::BadWorld {
+        line: 0,
+        why: Why::NotBuilt,
+    };
+    let too_large = Status::BadWorld {
+        line: 0,
+        why: Why::TooLarge,
+    };
+    let hi = world_text(alloc, "quantum 100\nbudget 1000", HI, "data 000a6948\n")?;
+    let rows = [
+        ("fly", hi, Status::Usage, usage),
+        ("run x", Vec::new(alloc), Status::Usage, usage),
+        (
+            "run",
+            Vec::new(alloc),
+            not_built,
+            "bad world line 0: not built\n",
+        ),
+        (
+            "run",
+            vec![in alloc; b'a'; 1_048_577]?,
+            too_large,
+            "bad world line 0: too large\n",
+        ),
+    ];
+    for (word, input, status, text) in rows {
+        let (answer, sink) = answer_to(
+            alloc,
+            word,
+            &mut MemSource::new(input, Vec::new(alloc)),
+            Vec::new(alloc),
+        )?;
+        assert_eq!(rt; answer, status, "{text}");
+        assert_eq!(rt; sink.written(), text.as_bytes());
+    }
+    let mut sink = MemSink::new(vec![in alloc; 0; 100]?, Vec::new(alloc));
+    let none = otherworld(
+        alloc,
+        &[],
+        &mut MemSource::new(Vec::new(alloc), Vec::new(alloc)),
+        &mut sink,
+        &mut Plant::new(alloc),
+    );
+    assert_eq!(rt; none, Status::Usage);
     assert_eq!(rt; sink.written(), usage.as_bytes());
+    Ok(())
+}
 
-    let (answer, sink) = answer_to(alloc, "run", Vec::new(alloc), Vec::new(alloc), Vec::new(alloc))?;
-    assert_eq!(rt; answer, Status::BadWorld { line: 0, why: Why::NotBuilt });
-    assert_eq!(rt; sink.written(), "bad world line 0: not built\n".as_bytes());
-
-    let long = vec![in alloc; b'a'; 1_048_577]?;
-    let (answer, sink) = answer_to(alloc, "run", long, Vec::new(alloc), Vec::new(alloc))?;
-    assert_eq!(rt; answer, Status::BadWorld { line: 0, why: Why::TooLarge });
-    assert_eq!(rt; sink.written(), "bad world line 0: too large\n".as_bytes());
-
-    for call in [1, 2] {
-        let hi = world_text(alloc, "1000", HI, "data 000a6948\n")?;
-        let (answer, sink) = answer_to(alloc, "run", hi, vec![in alloc; call]?, Vec::new(alloc))?;
-        assert_eq!(rt; answer, Status::ReadFault, "at read {call}");
+#[test]
+fn faults_of_the_outside_are_told(rt: HostRuntime) -> Result<(), Fail> {
+    let alloc = rt.alloc();
+    // the input is read to its end, which takes one read more than it has bytes at one byte a read
+    for (pace, call) in [(0usize, 1u32), (0, 2), (1, 1), (1, 100), (1, 0)] {
+        let hi = world_text(alloc, "quantum 100\nbudget 1000", HI, "data 000a6948\n")?;
+        let last = u32::try_from(hi.len()).unwrap_or(0).saturating_add(1);
+        let fails = vec![in alloc; if call == 0 { last } else { call }]?;
+        let mut source = MemSource::new(hi, fails).with_pace(pace);
+        let (answer, sink) = answer_to(alloc, "run", &mut source, Vec::new(alloc))?;
+        assert_eq!(rt; answer, Status::ReadFault, "read {call} at pace {pace}");
         assert_eq!(rt; sink.written(), "read fault\n".as_bytes());
     }
+    let hi = world_text(alloc, "quantum 100\nbudget 1000", HI, "data 000a6948\n")?;
+    let (answer, sink) = answer_to(
+        alloc,
+        "run",
+        &mut MemSource::new(hi, Vec::new(alloc)).with_pace(1),
+        Vec::new(alloc),
+    )?;
+    assert_eq!(rt; answer, Status::Done);
+    assert_eq!(rt; sink.written(), HI_REPORT.as_bytes());
+    for call in [1u32, 2, 10] {
+        let hi = world_text(alloc, "quantum 100\nbudget 1000", HI, "data 000a6948\n")?;
+        let (answer, sink) = answer_to(
+            alloc,
+            "run",
+            &mut MemSource::new(hi, Vec::new(alloc)),
+            vec![in alloc; call]?,
+        )?;
+        assert_eq!(rt; answer, Status::WriteFault, "write {call}");
+        assert!(rt;
+            HI_REPORT.as_bytes().starts_with(sink.written()),
+            "write {call}"
+        );
+        assert_eq!(rt; sink.written().is_empty(), call == 1);
+    }
     Ok(())
 }
 
 #[test]
-fn a_failed_write_leaves_a_front(rt: HostRuntime) -> Result<(), std::test::Fail> {
+fn a_sink_may_take_one_byte_a_write(rt: HostRuntime) -> Result<(), Fail> {
     let alloc = rt.alloc();
-    let rows: [(u32, &str); 3] = [(1, ""), (2, "otherworld 1"), (3, "otherworld 1\n")];
-    for (call, front) in rows {
-        let hi = world_text(alloc, "1000", HI, "data 000a6948\n")?;
-        let (answer, sink) = answer_to(alloc, "run", hi, Vec::new(alloc), vec![in alloc; call]?)?;
-        assert_eq!(rt; answer, Status::WriteFault, "at write {call}");
-        assert!(rt; HI_REPORT.as_bytes().starts_with(sink.written()), "at write {call}");
-        assert!(rt; front.len() <= HI_REPORT.len());
+    let mut words = Vec::new(alloc);
+    words.push(String::from_str(alloc, "run")?)?;
+    let wanted = HI_REPORT.as_bytes();
+    for (fails, status, length) in [
+        (0u32, Status::Done, wanted.len()),
+        (
+            u32::try_from(wanted.len()).unwrap_or(0),
+            Status::WriteFault,
+            wanted.len() - 1,
+        ),
+    ] {
+        let hi = world_text(alloc, "quantum 100\nbudget 1000", HI, "data 000a6948\n")?;
+        let mut source = MemSource::new(hi, Vec::new(alloc));
+        let mut sink = MemSink::new(vec![in alloc; 0; 1000]?, vec![in alloc; fails]?).with_pace(1);
+        let answer = otherworld(
+            alloc,
+            words.as_slice(),
+            &mut source,
+            &mut sink,
+            &mut Plant::new(alloc),
+        );
+        assert_eq!(rt; answer, status);
+        assert_eq!(rt; sink.written().len(), length);
+        assert!(rt; wanted.starts_with(sink.written()));
     }
     Ok(())
 }

@@ -136,11 +136,7 @@ fn refuse<K: Sink>(sink: &mut K, status: Status) -> Status
 }
 
 /// Reads a world and arms the plant for it. A refusal leaves the plant as it was.
-fn load_world<S: Source>(
-    alloc: Global,
-    source: &mut S,
-    plant: &mut Plant,
-) -> Result<World, Status>
+fn load_world<S: Source>(alloc: Global, source: &mut S, plant: &mut Plant) -> Result<World, Status>
     requires { plant.old.armed ≡ false }
     ensures read { IfOk result (IsRead (S.left source.old) (S.left source.new)) }
     ensures ready { IfOk result (λ world. IsReady world.load.shape plant.new) }

@@ -27,7 +27,7 @@ place_words-requires-3-clause-fresh c page inside =
     let none : (pages_of c.args.plant.now.pages).rights page ≡ None = ap (λ (p : Pages). p.rights page) c.requires.ready.empty in
     ap (λ (p : Pages). p.rights page) c.place_words-2.ensures.pages
     ∙ with_words-fresh (pages_of c.place_words.new.plant.pages) (16 + c.pages_for-code_pages.result) c.pages_for-values_pages.result Values c.items-4.result.now page behind
-        (ap (λ (p : Pages). p.rights page) c.place_words.ensures.pages ∙ with_words-fresh (pages_of c.args.plant.now.pages) 16 c.pages_for-code_pages.result Code c.items-3.result.now page before none)
+    (ap (λ (p : Pages). p.rights page) c.place_words.ensures.pages ∙ with_words-fresh (pages_of c.args.plant.now.pages) 16 c.pages_for-code_pages.result Code c.items-3.result.now page before none)
 
 pub returns-clause-started : goal.returns-clause-started
 returns-clause-started c load built =
@@ -37,18 +37,18 @@ returns-clause-started c load built =
     let cp : c.pages_for-code_pages.result ≡ page_count code = c.pages_for-code_pages.ensures ∙ ap page_count c.items.ensures in
     let dp : c.pages_for-values_pages.result ≡ page_count values = c.pages_for-values_pages.ensures ∙ ap page_count c.items-2.ensures in
     let pages : pages_of s.pages ≡ started_pages c.args.program.now =
-        c.place_words-3.ensures.pages
-        ∙ ap (λ (p : Pages). with_words p 0x7fffc 4 Values []) (c.place_words-2.ensures.pages ∙ ap (λ (p : Pages). with_words p (16 + c.pages_for-code_pages.result) c.pages_for-values_pages.result Values c.items-4.result.now) (c.place_words.ensures.pages ∙ ap (λ (p : Pages). with_words p 16 c.pages_for-code_pages.result Code c.items-3.result.now) c.requires.ready.empty))
-        ∙ (rw (cp, dp, c.items-3.ensures, c.items-4.ensures) (with_words-program c.args.program.now c.requires.short_code c.requires.short_values)) in
+    c.place_words-3.ensures.pages
+    ∙ ap (λ (p : Pages). with_words p 0x7fffc 4 Values []) (c.place_words-2.ensures.pages ∙ ap (λ (p : Pages). with_words p (16 + c.pages_for-code_pages.result) c.pages_for-values_pages.result Values c.items-4.result.now) (c.place_words.ensures.pages ∙ ap (λ (p : Pages). with_words p 16 c.pages_for-code_pages.result Code c.items-3.result.now) c.requires.ready.empty))
+    ∙ (rw (cp, dp, c.items-3.ensures, c.items-4.ensures) (with_words-program c.args.program.now c.requires.short_code c.requires.short_values)) in
     let kept : s ≡ record c.args.plant.now { pages = s.pages } = grind (arith, common_steps, c.place_words-3.ensures.rest, c.place_words-2.ensures.rest, c.place_words.ensures.rest) in
     let regs : c.set.new.self ≡ started_bank.regs = c.set.ensures ∙ ap (λ (r : List ℕ). with_register r 2 0x7ffffff0) c.new-regs.ensures in
     rw regs (start_of-booted load c.args.program.now c.args.start.now s (16 * c.args.plant.now.shape.budget) built
-      (ap (λ (t : PlantState). t.in_user) kept ∙ c.requires.ready.in_kernel)
-      pages
-      (ap (λ (t : PlantState). t.tty0) kept ∙ c.requires.ready.tty0)
-      (ap (λ (t : PlantState). t.tty1) kept ∙ c.requires.ready.tty1)
-      (ap (λ (t : PlantState). t.steps) kept ∙ c.requires.ready.no_steps)
-      (ap (λ (t : PlantState). t.traps) kept ∙ c.requires.ready.no_traps))
+    (ap (λ (t : PlantState). t.in_user) kept ∙ c.requires.ready.in_kernel)
+    pages
+    (ap (λ (t : PlantState). t.tty0) kept ∙ c.requires.ready.tty0)
+    (ap (λ (t : PlantState). t.tty1) kept ∙ c.requires.ready.tty1)
+    (ap (λ (t : PlantState). t.steps) kept ∙ c.requires.ready.no_steps)
+    (ap (λ (t : PlantState). t.traps) kept ∙ c.requires.ready.no_traps))
 
 pub returns-clause-sound : goal.returns-clause-sound
 returns-clause-sound c =
@@ -58,18 +58,18 @@ returns-clause-sound c =
     let cp : c.pages_for-code_pages.result ≡ page_count code = c.pages_for-code_pages.ensures ∙ ap page_count c.items.ensures in
     let dp : c.pages_for-values_pages.result ≡ page_count values = c.pages_for-values_pages.ensures ∙ ap page_count c.items-2.ensures in
     let pages : pages_of s.pages ≡ started_pages c.args.program.now =
-        c.place_words-3.ensures.pages
-        ∙ ap (λ (p : Pages). with_words p 0x7fffc 4 Values []) (c.place_words-2.ensures.pages ∙ ap (λ (p : Pages). with_words p (16 + c.pages_for-code_pages.result) c.pages_for-values_pages.result Values c.items-4.result.now) (c.place_words.ensures.pages ∙ ap (λ (p : Pages). with_words p 16 c.pages_for-code_pages.result Code c.items-3.result.now) c.requires.ready.empty))
-        ∙ (rw (cp, dp, c.items-3.ensures, c.items-4.ensures) (with_words-program c.args.program.now c.requires.short_code c.requires.short_values)) in
+    c.place_words-3.ensures.pages
+    ∙ ap (λ (p : Pages). with_words p 0x7fffc 4 Values []) (c.place_words-2.ensures.pages ∙ ap (λ (p : Pages). with_words p (16 + c.pages_for-code_pages.result) c.pages_for-values_pages.result Values c.items-4.result.now) (c.place_words.ensures.pages ∙ ap (λ (p : Pages). with_words p 16 c.pages_for-code_pages.result Code c.items-3.result.now) c.requires.ready.empty))
+    ∙ (rw (cp, dp, c.items-3.ensures, c.items-4.ensures) (with_words-program c.args.program.now c.requires.short_code c.requires.short_values)) in
     let kept : s ≡ record c.args.plant.now { pages = s.pages } = grind (arith, common_steps, c.place_words-3.ensures.rest, c.place_words-2.ensures.rest, c.place_words.ensures.rest) in
     let shape : s.shape ≡ c.args.plant.now.shape = ap (λ (t : PlantState). t.shape) kept in
     let budget : s.shape.budget ≡ c.args.plant.now.shape.budget = ap (λ (m : Shape). m.budget) shape in
     let small : s.shape.budget ≤ 2000000 = omega (arith, budget, c.requires.budget) in
     IsSound-booted c.args.program.now s c.args.start.now.tty (record { pc = 65536; regs = c.set.new.self }) c.requires.short_code c.requires.short_values c.requires.tty small
-      (ap (λ (t : PlantState). t.armed) kept ∙ c.requires.ready.armed)
-      pages
-      (ap (λ (t : PlantState). t.tty0) kept ∙ c.requires.ready.tty0 ∙ ap (λ (n : ℕ). silent_terminal (16 * n)) (sym budget))
-      (ap (λ (t : PlantState). t.tty1) kept ∙ c.requires.ready.tty1 ∙ ap (λ (n : ℕ). silent_terminal (16 * n)) (sym budget))
-      (ap (λ (t : PlantState). t.steps) kept ∙ c.requires.ready.no_steps)
-      (ap (λ (t : PlantState). t.traps) kept ∙ c.requires.ready.no_traps)
-      (ap (λ (t : PlantState). t.history) kept ∙ c.requires.ready.no_history)
+    (ap (λ (t : PlantState). t.armed) kept ∙ c.requires.ready.armed)
+    pages
+    (ap (λ (t : PlantState). t.tty0) kept ∙ c.requires.ready.tty0 ∙ ap (λ (n : ℕ). silent_terminal (16 * n)) (sym budget))
+    (ap (λ (t : PlantState). t.tty1) kept ∙ c.requires.ready.tty1 ∙ ap (λ (n : ℕ). silent_terminal (16 * n)) (sym budget))
+    (ap (λ (t : PlantState). t.steps) kept ∙ c.requires.ready.no_steps)
+    (ap (λ (t : PlantState). t.traps) kept ∙ c.requires.ready.no_traps)
+    (ap (λ (t : PlantState). t.history) kept ∙ c.requires.ready.no_history)

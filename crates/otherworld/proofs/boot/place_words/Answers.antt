@@ -14,8 +14,8 @@ loop-page-init c = record {
   rest = refl;
 }
 
-pub place-requires-clause-fresh : goal.place-requires-clause-fresh
-place-requires-clause-fresh c =
+pub place-requires-clause-new_page : goal.place-requires-clause-new_page
+place-requires-clause-new_page c =
     let page = c.args.first + c.loop-page.page in
     let behind : is_within c.args.first c.loop-page.page page ≡ false = grind arith in
     let inside : is_within c.args.first c.args.count page ≡ true = grind arith in
@@ -25,8 +25,8 @@ place-requires-clause-fresh c =
 pub loop-page-preserved : goal.loop-page-preserved
 loop-page-preserved c = record {
   pages = c.place.ensures.pages
-    ∙ ap (λ (p : Pages). with_page p (c.args.first + c.loop-page.page) (rights_of c.args.writable) c.page_words.result) c.loop-page.invariant.pages
-    ∙ with_words-more (pages_of c.args.plant.now.pages) c.args.first c.loop-page.page (rights_of c.args.writable) c.args.words.now c.page_words.result c.page_words.ensures;
+      ∙ ap (λ (p : Pages). with_page p (c.args.first + c.loop-page.page) (rights_of c.args.writable) c.page_words.result) c.loop-page.invariant.pages
+      ∙ with_words-more (pages_of c.args.plant.now.pages) c.args.first c.loop-page.page (rights_of c.args.writable) c.args.words.now c.page_words.result c.page_words.ensures;
   count = omega (arith, c.place.ensures.count, c.loop-page.invariant.count);
   rest = grind (arith, common_steps, c.place.ensures.rest, c.loop-page.invariant.rest);
 }

@@ -22,7 +22,7 @@ returns-in-Next-clause-turn c =
     let new = c.user_step.new.self in
     let few : s.steps < 2 ^ 32 - 1 = omega (arith, c.requires.sound.small) in
     by_outside (λ (k : Kernel). unix_of new k ≡ turn_at s.shape.quantum (unix_of s k) (unix_of s k).position) s c.args.kernel.now c.requires.in_user c.requires.sound.life
-      (λ tty last b. next_turn s new tty last b c.requires.in_user few c.in-Next.ensures)
+    (λ tty last b. next_turn s new tty last b c.requires.in_user few c.in-Next.ensures)
 
 pub returns-in-Next-clause-turned : goal.returns-in-Next-clause-turned
 returns-in-Next-clause-turned c = next_sound c.args.plant.now c.user_step.new.self c.args.kernel.now c.requires.sound c.requires.budget c.in-Next.ensures
@@ -36,7 +36,7 @@ returns-in-Slice-clause-turn c =
     let few : s.steps < 2 ^ 32 - 1 = omega (arith, c.requires.sound.small) in
     let few_traps : s.traps < 2 ^ 32 - 1 = omega (arith, c.requires.sound.few_traps) in
     rw (plant, kernel) (by_outside (λ (k : Kernel). unix_of (entered s came.User) (kernel_in k.tty (Outside s.bank)) ≡ turn_at s.shape.quantum (unix_of s k) (unix_of s k).position) s c.args.kernel.now c.requires.in_user c.requires.sound.life
-      (λ tty last b. slice_turn s tty last b c.requires.in_user few few_traps kept.0))
+    (λ tty last b. slice_turn s tty last b c.requires.in_user few few_traps kept.0))
 
 pub returns-in_ok-kernel-in-Call-clause-turn : goal.returns-in_ok-kernel-in-Call-clause-turn
 returns-in_ok-kernel-in-Call-clause-turn c =
@@ -52,7 +52,7 @@ returns-in_ok-kernel-in-Call-clause-turn c =
     let few : s.steps < 2 ^ 32 - 1 = omega (arith, c.requires.sound.small) in
     let few_traps : s.traps < 2 ^ 32 - 1 = omega (arith, c.requires.sound.few_traps) in
     rw (c.leave-in-Call.ensures.same, tty, last) (by_outside (λ (k : Kernel). IsMadeBy (λ u p. called u 1 p (call_number p)) k.tty s.bank (entered s came.Call) c.serve_call.new.plant life → unix_of c.serve_call.new.plant (kernel_in k.tty life) ≡ turn_at s.shape.quantum (unix_of s k) (unix_of s k).position) s c.args.kernel.now c.requires.in_user c.requires.sound.life
-      (λ tty last b m. call_turn s c.serve_call.new.plant tty last b life c.requires.in_user few few_traps kept.0 kept.1 m) made)
+    (λ tty last b m. call_turn s c.serve_call.new.plant tty last b life c.requires.in_user few few_traps kept.0 kept.1 m) made)
 
 pub returns-in_ok-kernel-in-Call-clause-turned : goal.returns-in_ok-kernel-in-Call-clause-turned
 returns-in_ok-kernel-in-Call-clause-turned c =
@@ -77,4 +77,4 @@ returns-in-Fault-clause-turn c =
     let few : s.steps < 2 ^ 32 - 1 = omega (arith, c.requires.sound.small) in
     let few_traps : s.traps < 2 ^ 32 - 1 = omega (arith, c.requires.sound.few_traps) in
     rw (plant, tty, last) (by_outside (λ (k : Kernel). unix_of (entered s came.User) (kernel_in k.tty (Ended (0x200 + c.in-Fault.fault.cause))) ≡ turn_at s.shape.quantum (unix_of s k) (unix_of s k).position) s c.args.kernel.now c.requires.in_user c.requires.sound.life
-      (λ tty last b. fault_turn s tty last b c.in-Fault.fault c.requires.in_user few few_traps kept.0 kept.1))
+    (λ tty last b. fault_turn s tty last b c.in-Fault.fault c.requires.in_user few few_traps kept.0 kept.1))

@@ -13,8 +13,8 @@ returns-in-Ok-clause-run c =
     let s = c.loop-ending.plant in
     let k = c.loop-ending.kernel in
     c.loop-ending.invariant.so_far c.in-Some.ending (unix_of c.shutdown.new.plant c.shutdown.new.kernel)
-      (run_ends c.args.plant.now.shape (unix_of s k) (unix_of c.shutdown.new.plant c.shutdown.new.kernel) c.in-Some.ending
-        (subst (λ (shape : Shape). ending_of shape (unix_of s k) ≡ Some c.in-Some.ending) c.loop-ending.invariant.same_shape (sym c.in-Some.ensures)) c.shutdown.ensures.closing)
+    (run_ends c.args.plant.now.shape (unix_of s k) (unix_of c.shutdown.new.plant c.shutdown.new.kernel) c.in-Some.ending
+    (subst (λ (shape : Shape). ending_of shape (unix_of s k) ≡ Some c.in-Some.ending) c.loop-ending.invariant.same_shape (sym c.in-Some.ensures)) c.shutdown.ensures.closing)
 
 pub serve_trap-requires-clause-live : goal.serve_trap-requires-clause-live
 serve_trap-requires-clause-live c = (not_ended c.loop-ending.plant c.loop-ending.kernel (sym c.in_default.ensures)).0
@@ -33,5 +33,5 @@ loop-ending-preserved c =
       sound = c.serve_trap.ensures.turned.sound;
       same_shape = c.serve_trap.ensures.turned.same_shape ∙ shape;
       so_far = λ e w later. c.loop-ending.invariant.so_far e w
-        (run_more c.args.plant.now.shape (unix_of c.loop-ending.plant c.loop-ending.kernel) (unix_of c.serve_trap.new.plant c.serve_trap.new.kernel) none turned e w later);
+          (run_more c.args.plant.now.shape (unix_of c.loop-ending.plant c.loop-ending.kernel) (unix_of c.serve_trap.new.plant c.serve_trap.new.kernel) none turned e w later);
     }

@@ -17,26 +17,26 @@ unfolding bad_world_text
 returns-in_err-put_number-clause-writes g c =
     let p = err_from_is_err_and c.from_residual-in_err-put_number.result c.from_residual-in_err-put_number.ensures.1 in
     rw p.1 (shifted (codes "bad world line ") (decimal c.args.line ++ (codes ": " ++ line (reason_of c.args.why))) _ _ _ c.in_ok-put_all.ensures.writes
-      (cut (decimal c.args.line) (codes ": " ++ line (reason_of c.args.why)) _ _ c.in_err-put_number.ensures.writes))
+    (cut (decimal c.args.line) (codes ": " ++ line (reason_of c.args.why)) _ _ c.in_err-put_number.ensures.writes))
 
 pub returns-in_err-put_all-2-clause-writes : goal.returns-in_err-put_all-2-clause-writes
 unfolding bad_world_text
 returns-in_err-put_all-2-clause-writes g c =
     let p = err_from_is_err_and c.from_residual-in_err-put_all-2.result c.from_residual-in_err-put_all-2.ensures.1 in
     rw p.1 (shifted (codes "bad world line ") (decimal c.args.line ++ (codes ": " ++ line (reason_of c.args.why))) _ _ _ c.in_ok-put_all.ensures.writes
-      (shifted (decimal c.args.line) (codes ": " ++ line (reason_of c.args.why)) _ _ _ c.in_ok-put_number.ensures.writes
-        (cut (codes ": ") (line (reason_of c.args.why)) _ _ c.in_err-put_all-2.ensures.writes)))
+    (shifted (decimal c.args.line) (codes ": " ++ line (reason_of c.args.why)) _ _ _ c.in_ok-put_number.ensures.writes
+    (cut (codes ": ") (line (reason_of c.args.why)) _ _ c.in_err-put_all-2.ensures.writes)))
 
 pub returns-in-NotBuilt-clause-writes : goal.returns-in-NotBuilt-clause-writes
 unfolding bad_world_text
 returns-in-NotBuilt-clause-writes g c =
     rw c.in-NotBuilt.is (then_writes c.put_all-in-NotBuilt.result (codes "bad world line ") (decimal c.args.line ++ (codes ": " ++ line (reason_of NotBuilt))) _ _ _ c.in_ok-put_all.ensures.writes
-      (then_writes c.put_all-in-NotBuilt.result (decimal c.args.line) (codes ": " ++ line (reason_of NotBuilt)) _ _ _ c.in_ok-put_number.ensures.writes
-        (then_writes c.put_all-in-NotBuilt.result (codes ": ") (line (reason_of NotBuilt)) _ _ _ c.in_ok-put_all-2.ensures.writes c.put_all-in-NotBuilt.ensures.writes)))
+    (then_writes c.put_all-in-NotBuilt.result (decimal c.args.line) (codes ": " ++ line (reason_of NotBuilt)) _ _ _ c.in_ok-put_number.ensures.writes
+    (then_writes c.put_all-in-NotBuilt.result (codes ": ") (line (reason_of NotBuilt)) _ _ _ c.in_ok-put_all-2.ensures.writes c.put_all-in-NotBuilt.ensures.writes)))
 
 pub returns-in-TooLarge-clause-writes : goal.returns-in-TooLarge-clause-writes
 unfolding bad_world_text
 returns-in-TooLarge-clause-writes g c =
     rw c.in-TooLarge.is (then_writes c.put_all-in-TooLarge.result (codes "bad world line ") (decimal c.args.line ++ (codes ": " ++ line (reason_of TooLarge))) _ _ _ c.in_ok-put_all.ensures.writes
-      (then_writes c.put_all-in-TooLarge.result (decimal c.args.line) (codes ": " ++ line (reason_of TooLarge)) _ _ _ c.in_ok-put_number.ensures.writes
-        (then_writes c.put_all-in-TooLarge.result (codes ": ") (line (reason_of TooLarge)) _ _ _ c.in_ok-put_all-2.ensures.writes c.put_all-in-TooLarge.ensures.writes)))
+    (then_writes c.put_all-in-TooLarge.result (decimal c.args.line) (codes ": " ++ line (reason_of TooLarge)) _ _ _ c.in_ok-put_number.ensures.writes
+    (then_writes c.put_all-in-TooLarge.result (codes ": ") (line (reason_of TooLarge)) _ _ _ c.in_ok-put_all-2.ensures.writes c.put_all-in-TooLarge.ensures.writes)))
