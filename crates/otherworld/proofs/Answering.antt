@@ -1,16 +1,16 @@
 -- What becomes of the process, as the calls of the Unix say it.
-use Rattle.std.proofs.Common.{◌≡◌, ℕ, zero, suc, ◌+◌, ◌-◌, ◌*◌, ◌<◌, ◌≤◌, Bool, true, false, cond, nat_eq, nat_lt, ◌%◌, List, [], ◌∷◌, ◌++◌, length, slice_get, Option, Some, None, refl, ap, sym, ◌∙◌, arith}
+use Rattle.std.proofs.Common.{◌≡◌, ℕ, zero, suc, ◌+◌, ◌<◌, ◌≤◌, true, false, cond, nat_eq, nat_lt, ◌%◌, length, None, refl, ap, arith}
 use Rattle.std.proofs.lemmas.Grind.{common_steps}
-use Rattle.ow_base.specs.Words.{updated, minus}
+use Rattle.ow_base.specs.Words.{minus}
 use Rattle.ow_base.specs.UserStep.{register}
 use Rattle.ow_base.specs.Pages.{Pages, is_readable, bytes_at}
-use Rattle.ow_base.specs.Unix.{Unix, Process, CallState, Out, In, Description, OnTty}
-use Rattle.ow_base.specs.Calls.{answered, stays_in, tty_write, write_entry, description_of, called, call_number, exit_entry, ended_as, stopped, written_on, written_to, tty_piece, trapped}
+use Rattle.ow_base.specs.Unix.{CallState}
+use Rattle.ow_base.specs.Calls.{answered, stays_in, tty_write, write_entry, description_of, called, call_number, exit_entry, ended_as, tty_piece}
 use Rattle.ow_base.specs.declared.machine.Bank.{Bank}
-use Rattle.ow_plant.specs.State.{PlantState, pages_of, tty_of}
+use Rattle.ow_plant.specs.State.{PlantState, pages_of}
 use Rattle.otherworld.specs.declared.kernel_traps.Life.{Life}
 use Rattle.otherworld.specs.declared.kernel_traps.Life.TheVariants.{Outside, Writing, Ended}
-use Rattle.otherworld.specs.State.{unix_of, kernel_in, process_in, answered_life, stopped_life, written_life, with_puts, IsLive, IsMadeBy, the_description}
+use Rattle.otherworld.specs.State.{unix_of, kernel_in, process_in, answered_life, stopped_life, written_life, with_puts, IsMadeBy, the_description}
 
 -- an answer
 pub answers : (tty answer : ℕ) (bank : Bank) (s : PlantState) → s.in_user ≡ false → IsMadeBy (λ u p. answered u 1 p answer) tty bank s s (answered_life bank answer)

@@ -1,9 +1,9 @@
 -- What reading a piece and putting it comes to.
-use Rattle.std.proofs.Common.{◌≡◌, ℕ, zero, suc, ◌+◌, ◌-◌, ◌*◌, ◌/◌, ◌%◌, ◌^◌, ◌<◌, ◌≤◌, Bool, true, false, List, [], ◌∷◌, ◌++◌, length, take, Option, Some, None, is_some, refl, ap, sym, ◌∙◌, arith, append_assoc}
+use Rattle.std.proofs.Common.{◌≡◌, ℕ, suc, ◌+◌, ◌-◌, ◌/◌, ◌^◌, ◌<◌, ◌≤◌, true, false, List, [], ◌∷◌, ◌++◌, Option, Some, None, is_some, refl, ap, sym, ◌∙◌, arith, append_assoc}
 use Rattle.std.proofs.lemmas.Grind.{common_steps}
 use Rattle.ow_base.specs.Screen.{Screen, drawn, drawn_all}
 use Rattle.ow_base.specs.Pages.{Pages, is_readable, bytes_at, rights_at}
-use Rattle.ow_plant.specs.State.{PlantState, with_put, put_on}
+use Rattle.ow_plant.specs.State.{PlantState, with_put}
 use Rattle.otherworld.specs.State.{with_puts, IsWithinMemory}
 
 -- a byte in no page stops the piece

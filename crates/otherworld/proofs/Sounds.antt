@@ -1,20 +1,18 @@
 -- Each turn leaves a sound state.
-use Rattle.std.proofs.Common.{◌≡◌, ℕ, zero, suc, ◌+◌, ◌-◌, ◌*◌, ◌^◌, ◌<◌, ◌≤◌, Bool, true, false, cond, nat_eq, nat_lt, List, [], ◌∷◌, ◌++◌, length, Option, Some, None, MatchBool, refl, ap, sym, subst, ◌∙◌, arith, length-append}
+use Rattle.std.proofs.Common.{◌≡◌, ℕ, zero, suc, ◌+◌, ◌<◌, ◌≤◌, Bool, true, false, List, [], ◌∷◌, ◌++◌, length, Option, MatchBool, refl, ap, sym, subst, ◌∙◌, arith, length-append}
 use Rattle.std.proofs.lemmas.Grind.{common_steps}
 use Rattle.ow_base.specs.Screen.{Screen, drawn_all, drawn, screen_of}
-use Rattle.ow_base.specs.UserStep.{Stepped, Next, Call, Faulted, user_step}
-use Rattle.ow_base.specs.Pages.{Pages, page_space}
+use Rattle.ow_base.specs.UserStep.{Stepped, Next, Call, Faulted}
+use Rattle.ow_base.specs.Pages.{Pages}
 use Rattle.ow_base.specs.declared.machine.Bank.{Bank}
 use Rattle.ow_base.specs.declared.machine.Fault.{Fault}
 use Rattle.ow_base.specs.declared.machine.Rights.{Rights}
-use Rattle.ow_base.specs.declared.machine.Came.{Came}
-use Rattle.ow_base.specs.declared.machine.Came.TheVariants as came
-use Rattle.ow_plant.specs.State.{PlantState, pages_of, PageStore, placed_count, entered, returned_to, risen, StepsAs, TakesUserTurn, tty_of, Terminal as Device}
+use Rattle.ow_plant.specs.State.{PlantState, pages_of, PageStore, risen, StepsAs, TakesUserTurn, tty_of, Terminal as Device}
 use Rattle.ow_plant.specs.declared.UserEnd.TheVariants as end
 use Rattle.otherworld.specs.declared.kernel_traps.Life.{Life}
 use Rattle.otherworld.specs.declared.kernel_traps.Life.TheVariants.{Outside, Writing, Ended}
 use Rattle.otherworld.specs.declared.kernel_traps.Kernel.{Kernel}
-use Rattle.otherworld.specs.State.{kernel_in, puts_on, with_puts, IsLifeSound, IsSound, IsTurned, IsServed, IsInService, IsTerminalSound, IsWithinMemory, KeepsRights}
+use Rattle.otherworld.specs.State.{kernel_in, puts_on, with_puts, IsLifeSound, IsSound, IsTurned, IsServed, IsInService, IsTerminalSound, KeepsRights}
 use Rattle.otherworld.proofs.Steps.{KeepsRights-user_step}
 
 -- the process in user mode is outside a call

@@ -1,7 +1,6 @@
 -- A user step keeps the rights of all pages, and its faults have small causes.
 use Rattle.std.proofs.Common.{◌≡◌, ℕ, ◌+◌, ◌<◌, Bool, true, false, List, Option, Some, None, Result, Ok, Err, refl, arith}
-use Rattle.std.proofs.lemmas.Grind.{common_steps}
-use Rattle.ow_base.specs.UserStep.{Spaces, Stepped, Next, Call, Faulted, Act, Sets, Jumps, Branches, Loads, Stores, Nothing, Calls, Breaks, Illegal, fault_at, is_aligned, size_of, gone_to, after_load, after_store, acted, act_of, after_fetch, user_step}
+use Rattle.ow_base.specs.UserStep.{Stepped, Act, Sets, Jumps, Branches, Loads, Stores, Nothing, Calls, Breaks, Illegal, is_aligned, size_of, gone_to, after_load, after_store, acted, act_of, after_fetch, user_step}
 use Rattle.ow_base.specs.Pages.{Pages, page_space, fetched_from, loaded_from, stored_in, rights_at}
 use Rattle.ow_base.specs.declared.machine.Width.{Width}
 use Rattle.ow_base.specs.declared.machine.Fault.{Fault}

@@ -1,10 +1,9 @@
 -- The turns of the kernel are those of the Unix.
-use Rattle.std.proofs.Common.{◌≡◌, ℕ, zero, suc, ◌+◌, ◌-◌, ◌*◌, ◌^◌, ◌<◌, ◌≤◌, Bool, true, false, cond, nat_eq, nat_lt, List, [], ◌∷◌, ◌++◌, length, Option, Some, None, MatchBool, refl, ap, sym, subst, ◌∙◌, arith}
+use Rattle.std.proofs.Common.{◌≡◌, ℕ, zero, suc, ◌+◌, ◌-◌, ◌^◌, ◌<◌, ◌≤◌, Bool, true, false, cond, nat_eq, nat_lt, [], Some, None, MatchBool, refl, ap, sym, subst, ◌∙◌, arith}
 use Rattle.std.proofs.lemmas.Grind.{common_steps}
-use Rattle.ow_base.specs.Words.{updated, minus}
 use Rattle.ow_base.specs.UserStep.{Stepped, Next, Call, Faulted, user_step, register}
 use Rattle.ow_base.specs.Pages.{Pages, page_space}
-use Rattle.ow_base.specs.Unix.{Unix, Process, CallState, Out, In, Position, AtKernel, AtUser}
+use Rattle.ow_base.specs.Unix.{Unix, Process, Out, In, AtKernel}
 use Rattle.ow_base.specs.Choice.{chosen, least_from, settled, settled_at, settled_on, returned_as, returned_to as unix_returned_to, is_any_live}
 use Rattle.ow_base.specs.Calls.{trapped, entered as call_entered, called, call_number, ended_as, piece_of, continued, tty_write, description_of, piece_by, piece_on, argument}
 use Rattle.ow_base.specs.Turn.{turn, turn_at, user_turn, stepped, step_of, piece_or_idle, piece_if_live, ending_of, closed}
@@ -16,8 +15,7 @@ use Rattle.ow_base.specs.declared.machine.Fault.{Fault}
 use Rattle.ow_base.specs.declared.machine.Shape.{Shape}
 use Rattle.ow_base.specs.declared.machine.Came.{Came}
 use Rattle.ow_base.specs.declared.machine.Came.TheVariants as came
-use Rattle.ow_plant.specs.State.{PlantState, pages_of, placed_count, entered, returned_to, risen, StepsAs, TakesUserTurn}
-use Rattle.ow_plant.specs.declared.UserEnd.{UserEnd}
+use Rattle.ow_plant.specs.State.{PlantState, pages_of, entered, returned_to, risen, StepsAs, TakesUserTurn}
 use Rattle.ow_plant.specs.declared.UserEnd.TheVariants as end
 use Rattle.otherworld.specs.declared.kernel_traps.Life.{Life}
 use Rattle.otherworld.specs.declared.kernel_traps.Life.TheVariants.{Outside, Writing, Ended}

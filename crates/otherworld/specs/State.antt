@@ -1,14 +1,13 @@
 -- Which state of the Unix a plant and the kernel's own words stand for.
-use Rattle.std.specs.Prelude.{◌≡◌, ℕ, ◌+◌, ◌-◌, ◌*◌, ◌/◌, ◌%◌, ◌^◌, ◌<◌, ◌≤◌, Bool, true, false, ◌==◌, if◌then◌else◌, List, [], ◌∷◌, ◌++◌, length, replicate, Option, Some, None}
+use Rattle.std.specs.Prelude.{◌≡◌, ℕ, ◌+◌, ◌-◌, ◌*◌, ◌/◌, ◌^◌, ◌<◌, ◌≤◌, true, false, ◌==◌, if◌then◌else◌, List, [], ◌∷◌, ◌++◌, length, replicate, Option, Some, None}
 use Rattle.ow_base.specs.Screen.{screen_of, drawn_all}
 use Rattle.ow_base.specs.Words.{byte_of_words, wrapped, minus}
 use Rattle.ow_base.specs.Pages.{Pages}
 use Rattle.ow_base.specs.UserStep.{register, with_register, Stepped, Next, Call, Faulted}
-use Rattle.ow_base.specs.Unix.{Unix, Process, CallState, Out, In, Description, OnTty, Terminal, silent_terminal, AtKernel, AtUser, Position, started_descriptors, started_rights, page_count, is_within}
+use Rattle.ow_base.specs.Unix.{Unix, Process, CallState, Out, In, Description, OnTty, Terminal, silent_terminal, AtKernel, AtUser, Position, started_descriptors, is_within}
 use Rattle.ow_base.specs.World.{started_page_count}
 use Rattle.ow_base.specs.declared.machine.Bank.{Bank}
 use Rattle.ow_base.specs.declared.machine.Rights.{Rights}
-use Rattle.ow_base.specs.declared.machine.Shape.{Shape}
 use Rattle.ow_base.specs.declared.worlds.Load.{Load}
 use Rattle.ow_base.specs.declared.worlds.Program.{Program}
 use Rattle.ow_base.specs.declared.worlds.Start.{Start as Started}

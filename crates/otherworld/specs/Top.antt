@@ -1,7 +1,7 @@
 -- What the program answers, and what it writes.
-use Rattle.std.specs.Prelude.{◌≡◌, ℕ, ◌+◌, ◌<◌, ◌≤◌, Bool, true, false, List, [], ◌∷◌, ◌++◌, length, codes, decimal, Option, Some, None, String, string_bytes, bytes_eq, ◌⊎◌}
+use Rattle.std.specs.Prelude.{◌≡◌, ℕ, ◌≤◌, Bool, true, false, List, [], ◌∷◌, ◌++◌, length, codes, decimal, Option, Some, String, string_bytes, bytes_eq, ◌⊎◌}
 use Rattle.ow_base.specs.Lines.{line}
-use Rattle.ow_base.specs.Outside.{appended, IsFront, OnTold}
+use Rattle.ow_base.specs.Outside.{appended, IsFront, OnTold, TakesOver}
 use Rattle.ow_base.specs.World.{IsWorld}
 use Rattle.ow_base.specs.Unix.{Unix}
 use Rattle.ow_base.specs.Run.{Run}
@@ -69,8 +69,9 @@ status_of ending.Done = Done
 status_of ending.Budget = Budget
 status_of ending.Restarted = Restarted
 
--- the plant stands as the state that a run left: counts, tapes and displays
+-- PlantAgrees: the plant stands as the state that a run left, by its counts, tapes and displays
 pub record PlantAgrees (plant : PlantState) (w : Unix) : Type 0 where
+  pub armed : plant.armed ≡ true
   pub steps : plant.steps ≡ w.steps
   pub traps : plant.traps ≡ w.traps
   pub tape0 : plant.tty0.tape ≡ (w.terminals 0).tape
@@ -85,7 +86,8 @@ pub record IsRead (left after : Option (List ℕ)) (world : World) : Type 0 wher
   pub small : length input ≤ most_bytes
   pub value : IsWorld input world
 
--- a run of the world ended so and left this plant, and the text is its report
+-- a run of the world ended so (RunHolds), it left this plant (PlantAgrees), and the text is its report
+-- (OutputExact)
 pub record IsReported (world : World) (plant : PlantState) (ending : Ending) (text : List ℕ) : Type 0 where
   pub w : Unix
   pub run : Run world plant.history ending w
@@ -96,17 +98,18 @@ pub record IsReported (world : World) (plant : PlantState) (ending : Ending) (te
 abbrev pub IsRun : (left after : Option (List ℕ)) → (plant : PlantState) → Ending → (text : List ℕ) → Type 0
 IsRun left after plant ending text = (world : World) × IsRead left after world × IsReported world plant ending text
 
--- the input has too many bytes, or it is no world
-abbrev pub IsNoWorld : (left : Option (List ℕ)) → Why → Type 0
-IsNoWorld left TooLarge = OnTold left (λ bytes. most_bytes < length bytes)
-IsNoWorld left NotBuilt = OnTold left (λ bytes. (length bytes ≤ most_bytes) × ((world : World) → IsWorld bytes world → ⊥))
+-- the input has too many bytes, of which one more than the most were taken; or all of it was, and it is no
+-- world
+abbrev pub IsNoWorld : (left after : Option (List ℕ)) → Why → Type 0
+IsNoWorld left after TooLarge = TakesOver most_bytes left after
+IsNoWorld left after NotBuilt = OnTold left (λ bytes. (length bytes ≤ most_bytes) × ((world : World) → IsWorld bytes world → ⊥) × (after ≡ Some []))
 
--- why a status is answered, and the text that goes with it: the source has `left` before the call and
+-- NamedCauses: why a status is answered, and the text that goes with it: the source has `left` before the call and
 -- `after` behind it, read_rose says that its faults rose, and the plant is `old` before the call and `new`
 -- behind it
 abbrev pub Intends : (is_run : Bool) → (left after : Option (List ℕ)) → (read_rose : Type 0) → (old new : PlantState) → Status → (text : List ℕ) → Type 0
 Intends is_run left after read_rose old new Usage text = (is_run ≡ false) × (after ≡ left) × (new ≡ old) × (text ≡ usage_text)
-Intends is_run left after read_rose old new (BadWorld number why) text = (is_run ≡ true) × (number ≡ 0) × IsNoWorld left why × (new ≡ old) × (text ≡ bad_world_text number why)
+Intends is_run left after read_rose old new (BadWorld number why) text = (is_run ≡ true) × (number ≡ 0) × IsNoWorld left after why × (new ≡ old) × (text ≡ bad_world_text number why)
 Intends is_run left after read_rose old new ReadFault text = (is_run ≡ true) × read_rose × (new ≡ old) × (text ≡ read_fault_text)
 Intends is_run left after read_rose old new Memory text = (is_run ≡ true) × (new ≡ old) × (text ≡ memory_text)
 Intends is_run left after read_rose old new Done text = (is_run ≡ true) × IsRun left after new ending.Done text

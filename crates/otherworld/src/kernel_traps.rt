@@ -13,7 +13,7 @@ use ow_base::Bank;
 use ow_plant::{Came, Panicked, Plant, UserEnd};
 
 /// The pid of the one process.
-const PID: u32 = 1;
+pub const PID: u32 = 1;
 
 /// The pid of a trap that is of no process.
 const NO_PID: u32 = 0;

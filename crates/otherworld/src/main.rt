@@ -1,4 +1,5 @@
-//! Otherworld: a Unix that outlives the panics of its kernel, on a simulated RV32I machine.
+//! Otherworld: a small Unix on a simulated RV32I machine, proved from the bytes that come in to those that
+//! go out.
 #![tactic(auto)]
 
 mod boot;
@@ -11,8 +12,8 @@ mod top;
 pub use laws::one_run;
 use ow_base::{StdSink, StdSource};
 use ow_plant::Plant;
-use std::alloc::{AllocError, Global};
-use std::env::{Args, args};
+use std::env::args;
+use std::io;
 use std::process::ExitCode;
 pub use top::{Status, Why, otherworld};
 
@@ -20,21 +21,23 @@ pub use top::{Status, Why, otherworld};
 mod tests;
 
 /// The arguments behind the program's name.
-fn words_of(alloc: Global, arguments: Args<Global>) -> Result<Vec<String>, AllocError> {
-    let mut words = Vec::new(alloc);
-    for word in arguments.skip(1) {
+fn words_of(rt: &HostRuntime) -> io::Result<Vec<String>> {
+    let mut words = Vec::new(rt.alloc());
+    for word in args(rt)?.skip(1) {
         words.push(word)?;
     }
     Ok(words)
 }
 
+/// Calls the program over standard input and output. Where there is no memory for the words it writes
+/// nothing; words that are no text are no command.
 fn main(rt: HostRuntime) -> ExitCode {
-    let memory = ExitCode::from(Status::Memory.code());
-    let Ok(arguments) = args(&rt) else {
-        return memory;
-    };
-    let Ok(words) = words_of(rt.alloc(), arguments) else {
-        return memory;
+    let words = match words_of(&rt) {
+        Ok(words) => words,
+        Err(error) if error.kind() == io::ErrorKind::OutOfMemory => {
+            return ExitCode::from(Status::Memory.code());
+        }
+        Err(_) => Vec::new(rt.alloc()),
     };
     let mut source = StdSource::new(rt.stdin());
     let mut sink = StdSink::new(rt.stdout());

@@ -5,13 +5,10 @@ ghost use Rattle.ow_base.specs.Report.{head_text, ending_word, status_words, pro
 ghost use Rattle.otherworld.specs.State.{unix_of, exit_of, IsRunOver};
 ghost use Rattle.otherworld.specs.Writing.{word_text, next_word, line_text, exit_key, exit_number, status_of, IsExit, tape_line_count};
 
-use crate::kernel_traps::{Kernel, Life};
+use crate::kernel_traps::{Kernel, Life, PID};
 use itoa::Buffer;
 use ow_base::{Ending, Failed, Sink, put_all, put_escaped};
 use ow_plant::{Display, Plant};
-
-/// The pid of the one process.
-const PID: u32 = 1;
 
 /// How many bytes of a tape one line has.
 const TAPE_LINE: usize = 64;

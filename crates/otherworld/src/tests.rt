@@ -1,5 +1,6 @@
 use super::*;
 use ow_base::{MemSink, MemSource};
+use std::alloc::{AllocError, Global};
 use std::test::Fail;
 
 const HI: &str = "00100513 000115b7 00300613 00200893 00000073 00000513 00100893 00000073";

@@ -1,11 +1,10 @@
-use Rattle.std.proofs.Common.{◌≡◌, ℕ, ◌+◌, ◌*◌, None, Some, true, false, refl, ap, sym, ◌∙◌, subst, arith, List, [], length, ◌≤◌}
+use Rattle.std.proofs.Common.{◌≡◌, ℕ, ◌+◌, ◌*◌, None, false, ap, sym, ◌∙◌, arith, List, [], ◌≤◌}
 use Rattle.ow_base.specs.UserStep.{with_register}
 use Rattle.std.proofs.lemmas.Grind.{common_steps}
-use Rattle.ow_base.specs.Pages.{Pages, no_pages}
+use Rattle.ow_base.specs.Pages.{Pages}
 use Rattle.ow_base.specs.Unix.{is_within, page_count, started_pages, started_bank}
 use Rattle.ow_base.specs.declared.machine.Rights.TheVariants.{Code, Values}
-use Rattle.ow_base.specs.declared.machine.Bank.{Bank}
-use Rattle.ow_plant.specs.State.{PlantState, pages_of, rights_of, silent_terminal}
+use Rattle.ow_plant.specs.State.{PlantState, pages_of, silent_terminal}
 use Rattle.ow_base.specs.declared.machine.Shape.{Shape}
 use Rattle.otherworld.specs.State.{with_words}
 use Rattle.otherworld.proofs.Loading.{with_words-fresh, with_words-program}

@@ -1,9 +1,8 @@
-use Rattle.std.proofs.Common.{◌≡◌, ◌+◌, None, refl, true, false, ap, sym, ◌∙◌, subst, arith}
+use Rattle.std.proofs.Common.{◌≡◌, ◌+◌, refl, true, false, ap, sym, ◌∙◌, arith}
 use Rattle.std.proofs.lemmas.Grind.{common_steps}
 use Rattle.ow_base.specs.Pages.{Pages, with_page}
 use Rattle.ow_base.specs.Unix.{is_within}
 use Rattle.ow_plant.specs.State.{pages_of, rights_of}
-use Rattle.otherworld.specs.State.{with_words}
 use Rattle.otherworld.proofs.Loading.{with_words-none, with_words-more, with_words-fresh}
 use Rattle.otherworld.proofs.boot.place_words.Goals as goal
 

@@ -1,13 +1,11 @@
-use Rattle.std.proofs.Common.{◌≡◌, ◌<◌, ◌^◌, ◌-◌, ◌+◌, ap, sym, ◌∙◌, subst, arith}
-use Rattle.ow_base.specs.Turn.{turn_at}
-use Rattle.ow_base.specs.Unix.{In, AtKernel}
+use Rattle.std.proofs.Common.{◌≡◌, ◌<◌, ◌^◌, ◌-◌, ap, subst, arith}
+use Rattle.ow_base.specs.Unix.{In}
 use Rattle.ow_base.specs.UserStep.{register}
-use Rattle.ow_plant.specs.State.{PlantState, entered, pages_of}
+use Rattle.ow_plant.specs.State.{entered, pages_of}
 use Rattle.ow_base.specs.declared.machine.Came.TheVariants as came
-use Rattle.otherworld.specs.declared.kernel_traps.Kernel.{Kernel}
 use Rattle.otherworld.specs.declared.kernel_traps.Life.{Life}
 use Rattle.otherworld.specs.declared.kernel_traps.Life.TheVariants.{Writing}
-use Rattle.otherworld.specs.State.{unix_of, kernel_in, IsLifeSound, IsTurned}
+use Rattle.otherworld.specs.State.{IsLifeSound}
 use Rattle.otherworld.proofs.Answering.{description_of-open}
 use Rattle.otherworld.proofs.Turns.{piece_turn}
 use Rattle.otherworld.proofs.Sounds.{served_sound}

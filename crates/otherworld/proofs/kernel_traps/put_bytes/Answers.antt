@@ -1,4 +1,4 @@
-use Rattle.std.proofs.Common.{◌≡◌, ◌∙◌, ap, arith}
+use Rattle.std.proofs.Common.{arith}
 use Rattle.std.proofs.lemmas.Grind.{common_steps}
 use Rattle.otherworld.proofs.Services.{with_puts-push}
 use Rattle.otherworld.proofs.kernel_traps.put_bytes.Goals as goal

@@ -1,9 +1,9 @@
-use Rattle.std.proofs.Common.{◌≡◌, ◌≤◌, ◌<◌, nat_lt, nat_eq, true, false, arith}
+use Rattle.std.proofs.Common.{◌≡◌, nat_eq, false, arith}
 use Rattle.std.proofs.lemmas.Grind.{common_steps}
 use Rattle.std.proofs.lemmas.Result.{IfOk-weaker}
 use Rattle.ow_base.specs.Words.{minus}
 use Rattle.ow_base.specs.UserStep.{register}
-use Rattle.otherworld.specs.State.{answered_life, IsMadeBy}
+use Rattle.otherworld.specs.State.{answered_life}
 use Rattle.otherworld.proofs.Answering.{answers, exits, called-exit, called-write, called-none}
 use Rattle.otherworld.proofs.kernel_traps.serve_call.Goals as goal
 

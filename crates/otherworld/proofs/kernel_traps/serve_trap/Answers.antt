@@ -1,8 +1,8 @@
-use Rattle.std.proofs.Common.{◌≡◌, ap, sym, ◌∙◌, subst, arith, false}
+use Rattle.std.proofs.Common.{◌≡◌, ap, sym, ◌∙◌, false}
 use Rattle.ow_base.specs.Turn.{turn_at}
 use Rattle.ow_base.specs.Choice.{settled}
-use Rattle.ow_base.specs.Unix.{AtKernel, Position}
-use Rattle.ow_plant.specs.State.{PlantState, returned_to}
+use Rattle.ow_base.specs.Unix.{Position}
+use Rattle.ow_plant.specs.State.{returned_to}
 use Rattle.otherworld.specs.declared.kernel_traps.Kernel.{Kernel}
 use Rattle.otherworld.specs.declared.kernel_traps.Life.{Life}
 use Rattle.otherworld.specs.declared.kernel_traps.Life.TheVariants.{Outside, Writing}

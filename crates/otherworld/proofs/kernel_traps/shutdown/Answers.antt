@@ -1,4 +1,4 @@
-use Rattle.std.proofs.Common.{◌≡◌, ◌<◌, ◌^◌, ◌-◌, ap, sym, ◌∙◌, true, false, arith}
+use Rattle.std.proofs.Common.{◌≡◌, ◌<◌, ◌^◌, ◌-◌, ap, sym, ◌∙◌, true, arith}
 use Rattle.ow_base.specs.Turn.{closed}
 use Rattle.ow_base.specs.declared.machine.Came.TheVariants as came
 use Rattle.ow_plant.specs.State.{PlantState, entered}

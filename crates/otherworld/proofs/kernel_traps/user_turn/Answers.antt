@@ -1,12 +1,11 @@
-use Rattle.std.proofs.Common.{◌≡◌, ◌<◌, ◌^◌, ◌-◌, ◌+◌, ap, sym, ◌∙◌, subst, arith}
-use Rattle.std.proofs.lemmas.Grind.{common_steps}
+use Rattle.std.proofs.Common.{◌≡◌, ◌<◌, ◌^◌, ◌-◌, ◌+◌, ap, ◌∙◌, arith}
 use Rattle.ow_base.specs.Turn.{turn_at}
 use Rattle.ow_base.specs.Calls.{called, call_number}
 use Rattle.ow_plant.specs.State.{PlantState, entered}
 use Rattle.ow_base.specs.declared.machine.Came.TheVariants as came
 use Rattle.otherworld.specs.declared.kernel_traps.Kernel.{Kernel}
 use Rattle.otherworld.specs.declared.kernel_traps.Life.TheVariants.{Outside, Ended}
-use Rattle.otherworld.specs.State.{unix_of, kernel_in, IsMadeBy, IsTurned}
+use Rattle.otherworld.specs.State.{unix_of, kernel_in, IsMadeBy}
 use Rattle.otherworld.proofs.Turns.{next_turn, slice_taken, slice_turn, call_taken, call_turn, fault_taken, fault_turn}
 use Rattle.otherworld.proofs.Sounds.{by_outside, small_cause, next_sound, served_sound}
 use Rattle.otherworld.proofs.kernel_traps.user_turn.Goals as goal

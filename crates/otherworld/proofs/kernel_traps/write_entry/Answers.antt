@@ -3,7 +3,7 @@ use Rattle.std.proofs.lemmas.Grind.{common_steps}
 use Rattle.std.proofs.lemmas.Result.{IfOk-weaker}
 use Rattle.ow_base.specs.Words.{minus}
 use Rattle.ow_base.specs.UserStep.{register}
-use Rattle.otherworld.specs.State.{answered_life, IsMadeBy}
+use Rattle.otherworld.specs.State.{answered_life}
 use Rattle.otherworld.proofs.Answering.{answers, write_entry-closed, write_entry-invalid, write_entry-none, write_entry-piece}
 use Rattle.otherworld.proofs.kernel_traps.write_entry.Goals as goal
 

@@ -1,10 +1,10 @@
-use Rattle.std.proofs.Common.{◌≡◌, ℕ, ◌+◌, false, true, refl, arith}
+use Rattle.std.proofs.Common.{◌≡◌, ◌+◌, refl, arith}
 use Rattle.std.proofs.lemmas.Grind.{common_steps}
 use Rattle.ow_base.specs.UserStep.{register}
 use Rattle.ow_base.specs.Calls.{tty_piece}
-use Rattle.ow_base.specs.Pages.{is_readable, bytes_at}
+use Rattle.ow_base.specs.Pages.{bytes_at}
 use Rattle.ow_plant.specs.State.{pages_of}
-use Rattle.otherworld.specs.State.{with_puts, written_life, stopped_life, IsMadeBy}
+use Rattle.otherworld.specs.State.{with_puts, written_life}
 use Rattle.otherworld.proofs.Answering.{stops, writes_piece}
 use Rattle.otherworld.proofs.kernel_traps.write_piece.Goals as goal
 

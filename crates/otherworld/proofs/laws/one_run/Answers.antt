@@ -1,4 +1,4 @@
-use Rattle.std.proofs.Common.{◌≡◌, refl, sym, ◌∙◌, List, []}
+use Rattle.std.proofs.Common.{◌≡◌, refl, List}
 use Rattle.ow_base.specs.Run.{RunsFrom, ends, goes_on}
 use Rattle.ow_base.specs.Turn.{turn}
 use Rattle.ow_base.specs.Unix.{Unix, start_of}

@@ -1,11 +1,8 @@
-use Rattle.std.proofs.Common.{◌≡◌, ap, sym, ◌∙◌, refl, subst, true, false, Some, None, nat_eq, cond, MatchBool, arith}
+use Rattle.std.proofs.Common.{◌≡◌, ap, sym, ◌∙◌, refl, true, false, nat_eq, arith}
 use Rattle.std.proofs.lemmas.Grind.{common_steps}
 use Rattle.ow_base.specs.Turn.{ending_of}
-use Rattle.ow_base.specs.declared.worlds.Ending.TheVariants.{Done, Budget}
-use Rattle.otherworld.specs.declared.kernel_traps.Kernel.{Kernel}
 use Rattle.otherworld.specs.declared.kernel_traps.Life.{Life}
-use Rattle.otherworld.specs.declared.kernel_traps.Life.TheVariants.{Ended}
-use Rattle.otherworld.specs.State.{unix_of, IsLive}
+use Rattle.otherworld.specs.State.{unix_of}
 use Rattle.otherworld.proofs.Turns.{ending_of-ended, ending_of-live}
 use Rattle.otherworld.proofs.schedule_runner.ending_now.Goals as goal
 

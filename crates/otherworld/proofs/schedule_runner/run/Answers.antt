@@ -1,9 +1,6 @@
-use Rattle.std.proofs.Common.{◌≡◌, ◌<◌, ap, sym, ◌∙◌, refl, subst, [], Some, None, arith}
-use Rattle.ow_base.specs.Run.{RunsFrom}
+use Rattle.std.proofs.Common.{◌≡◌, sym, ◌∙◌, subst, Some, None, arith}
 use Rattle.ow_base.specs.Turn.{ending_of, turn}
-use Rattle.ow_base.specs.Unix.{Unix}
 use Rattle.ow_base.specs.declared.machine.Shape.{Shape}
-use Rattle.ow_base.specs.declared.worlds.Ending.{Ending}
 use Rattle.otherworld.specs.State.{unix_of}
 use Rattle.otherworld.proofs.Turns.{not_ended, run_more, run_ends}
 use Rattle.otherworld.proofs.schedule_runner.run.Goals as goal

@@ -1,4 +1,4 @@
-use Rattle.std.proofs.Common.{◌≡◌, refl, sym, ap, Err, subst, List, ℕ, arith}
+use Rattle.std.proofs.Common.{refl, sym, ap, Err, subst, List, ℕ, arith}
 use Rattle.ow_base.specs.World.{IsWorld}
 use Rattle.otherworld.proofs.Tops.{no_world}
 use Rattle.otherworld.proofs.top.load_world.Goals as goal

@@ -1,4 +1,4 @@
-use Rattle.std.proofs.Common.{◌≡◌, ◌++◌, codes, decimal, sym}
+use Rattle.std.proofs.Common.{◌++◌, codes, decimal}
 use Rattle.std.proofs.lemmas.Result.{err_from_is_err_and}
 use Rattle.ow_base.specs.Lines.{line}
 use Rattle.ow_base.proofs.Writing.{cut, shifted, then_writes}

@@ -1,4 +1,4 @@
-use Rattle.std.proofs.Common.{◌≡◌, refl, sym, ap, ◌∙◌, subst, inl, inr, List, ℕ, get_or, arith}
+use Rattle.std.proofs.Common.{refl, ap, ◌∙◌, inl, inr, List, get_or}
 use Rattle.ow_base.specs.Report.{report_of}
 use Rattle.ow_base.specs.declared.worlds.Program.{Program}
 use Rattle.ow_base.specs.declared.worlds.Start.{Start as Started}
