@@ -12,8 +12,8 @@ use Rattle.ow_plant.specs.declared.UserEnd.TheVariants as end
 use Rattle.otherworld.specs.declared.kernel_traps.Life.{Life}
 use Rattle.otherworld.specs.declared.kernel_traps.Life.TheVariants.{Outside, Writing, Ended}
 use Rattle.otherworld.specs.declared.kernel_traps.Kernel.{Kernel}
-use Rattle.otherworld.specs.State.{kernel_in, puts_on, with_puts, IsLifeSound, IsSound, IsTurned, IsServed, IsInService, IsTerminalSound, KeepsRights}
-use Rattle.otherworld.proofs.Steps.{KeepsRights-user_step}
+use Rattle.otherworld.specs.State.{kernel_in, puts_on, with_puts, IsLifeSound, IsSound, IsTurned, IsServed, IsInService, IsTerminalSound}
+use Rattle.otherworld.proofs.Steps.{KeepsRights, KeepsRights-user_step}
 
 -- the process in user mode is outside a call
 pub by_outside : (P : Kernel → Type 0) (s : PlantState) (k : Kernel) → s.in_user ≡ true → IsLifeSound s k.life → ((tty last : ℕ) (b : Bank) → P (record { tty = tty; last = last; life = Outside b })) → P k

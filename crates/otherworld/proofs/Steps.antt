@@ -1,12 +1,17 @@
 -- A user step keeps the rights of all pages, and its faults have small causes.
 use Rattle.std.proofs.Common.{◌≡◌, ℕ, ◌+◌, ◌<◌, Bool, true, false, List, Option, Some, None, Result, Ok, Err, refl, arith}
-use Rattle.ow_base.specs.UserStep.{Stepped, Act, Sets, Jumps, Branches, Loads, Stores, Nothing, Calls, Breaks, Illegal, is_aligned, size_of, gone_to, after_load, after_store, acted, act_of, after_fetch, user_step}
+use Rattle.ow_base.specs.UserStep.{Stepped, Next, Call, Faulted, Act, Sets, Jumps, Branches, Loads, Stores, Nothing, Calls, Breaks, Illegal, is_aligned, size_of, gone_to, after_load, after_store, acted, act_of, after_fetch, user_step}
 use Rattle.ow_base.specs.Pages.{Pages, page_space, fetched_from, loaded_from, stored_in, rights_at}
 use Rattle.ow_base.specs.declared.machine.Width.{Width}
 use Rattle.ow_base.specs.declared.machine.Fault.{Fault}
 use Rattle.ow_base.specs.declared.machine.Rights.{Rights}
 use Rattle.ow_base.specs.declared.machine.Rights.TheVariants.{Code, Values}
-use Rattle.otherworld.specs.State.{KeepsRights}
+
+-- a step keeps the rights of all pages, and its faults have causes below 16
+abbrev pub KeepsRights : Pages → Stepped Pages → Type 0
+KeepsRights old (Next regs pc pages) = pages.rights ≡ old.rights
+KeepsRights old Call = Unit {0}
+KeepsRights old (Faulted fault) = fault.cause < 16
 
 -- where either answer keeps them, a test between two does
 keeps_either : (p : Pages) (b : Bool) (x y : Stepped Pages) → KeepsRights p x → KeepsRights p y → KeepsRights p (Rattle.std.proofs.Common.cond b x y)

@@ -3,7 +3,7 @@ use Rattle.std.specs.Prelude.{◌≡◌, ℕ, ◌+◌, ◌-◌, ◌*◌, ◌/◌
 use Rattle.ow_base.specs.Screen.{screen_of, drawn_all}
 use Rattle.ow_base.specs.Words.{byte_of_words, wrapped, minus}
 use Rattle.ow_base.specs.Pages.{Pages}
-use Rattle.ow_base.specs.UserStep.{register, with_register, Stepped, Next, Call, Faulted}
+use Rattle.ow_base.specs.UserStep.{register, with_register}
 use Rattle.ow_base.specs.Unix.{Unix, Process, CallState, Out, In, Description, OnTty, Terminal, silent_terminal, AtKernel, AtUser, Position, started_descriptors, is_within}
 use Rattle.ow_base.specs.World.{started_page_count}
 use Rattle.ow_base.specs.declared.machine.Bank.{Bank}
@@ -206,9 +206,3 @@ pub record IsBuilt (load : Load) (program : Program) (start : Started) : Type 0 
   pub short_code : length program.code ≤ 65536
   pub short_values : length program.values ≤ 65536
   pub frames : started_page_count program ≤ load.shape.user_frames
-
--- a step keeps the rights of all pages, and its faults have causes below 16
-abbrev pub KeepsRights : Pages → Stepped Pages → Type 0
-KeepsRights old (Next regs pc pages) = pages.rights ≡ old.rights
-KeepsRights old Call = Unit {0}
-KeepsRights old (Faulted fault) = fault.cause < 16

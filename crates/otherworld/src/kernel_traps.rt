@@ -1,12 +1,11 @@
-ghost use Rattle.std.specs.Prelude.{◌≡◌, ℕ, ◌+◌, ◌-◌, ◌*◌, ◌/◌, ◌%◌, ◌^◌, ◌<◌, ◌≤◌, List, [], ◌∷◌, ◌++◌, true, false, length, drop, IsOk, IfOk, MatchOption, IfSome, IsNone, ◌↔◌};
+ghost use Rattle.std.specs.Prelude.{◌≡◌, ℕ, ◌+◌, ◌^◌, ◌<◌, ◌≤◌, true, false, length, IsOk, IfOk, IfSome, IsNone};
 ghost use Rattle.ow_base.specs.Pages.{is_readable, bytes_at};
 ghost use Rattle.ow_base.specs.Words.{minus};
-ghost use Rattle.ow_base.specs.UserStep.{register};
 ghost use Rattle.ow_base.specs.Unix.{AtKernel};
-ghost use Rattle.ow_base.specs.Calls.{answered, tty_write, write_entry as write_entered, called, call_number, stopped};
+ghost use Rattle.ow_base.specs.Calls.{tty_write, write_entry as write_entered, called, call_number};
 ghost use Rattle.ow_base.specs.Turn.{turn, turn_at, closed};
 ghost use Rattle.ow_plant.specs.State.{entered, pages_of, tty_of};
-ghost use Rattle.otherworld.specs.State.{with_puts, unix_of, kernel_in, process_in, IsWithinMemory, IsServed, IsInService, IsWriting, IsLifeSound, IsMadeBy, answered_life, stopped_life, written_life, number_of, IsSound, IsTurned, IsLive, IsClosed};
+ghost use Rattle.otherworld.specs.State.{with_puts, unix_of, kernel_in, IsWithinMemory, IsServed, IsInService, IsWriting, IsMadeBy, answered_life, stopped_life, written_life, number_of, IsSound, IsTurned, IsLive, IsClosed};
 
 use arrayvec::ArrayVec;
 use ow_base::Bank;
@@ -22,7 +21,7 @@ const NO_PID: u32 = 0;
 const PIECE: u32 = 16;
 
 /// The most bytes that a write may ask for.
-const MOST_BYTES: u32 = 0x7fff_ffff;
+const MOST_COUNT: u32 = 0x7fff_ffff;
 
 /// The last descriptor that is open: 0, 1 and 2 are one description, on the terminal.
 const LAST_DESCRIPTOR: u32 = 2;
@@ -33,7 +32,7 @@ const EXIT: u32 = 1;
 const WRITE: u32 = 2;
 
 /// The status word of a fault is this and its cause.
-const FAULT: u32 = 0x200;
+pub const FAULT: u32 = 0x200;
 
 /// The errors that calls answer. The answer is minus the number.
 #[derive(Clone, Copy, Debug, PartialEq, Eq)]
@@ -189,7 +188,7 @@ fn write_entry(plant: &mut Plant, tty: u32, bank: &Bank) -> Result<Life, Panicke
     if bank.regs.get(10) > LAST_DESCRIPTOR {
         return Ok(answered(bank, Errno::BadDescriptor.answer()));
     }
-    if count > MOST_BYTES {
+    if count > MOST_COUNT {
         return Ok(answered(bank, Errno::Invalid.answer()));
     }
     if count == 0 {

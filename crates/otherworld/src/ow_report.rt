@@ -5,7 +5,7 @@ ghost use Rattle.ow_base.specs.Report.{head_text, ending_word, status_words, pro
 ghost use Rattle.otherworld.specs.State.{unix_of, exit_of, IsRunOver};
 ghost use Rattle.otherworld.specs.Writing.{word_text, next_word, line_text, exit_key, exit_number, status_of, IsExit, tape_line_count};
 
-use crate::kernel_traps::{Kernel, Life, PID};
+use crate::kernel_traps::{FAULT, Kernel, Life, PID};
 use itoa::Buffer;
 use ow_base::{Ending, Failed, Sink, put_all, put_escaped};
 use ow_plant::{Display, Plant};
@@ -18,9 +18,6 @@ const ROWS: u32 = 24;
 
 /// The first status word of a signal. Those below are exit codes.
 const SIGNAL: u32 = 0x100;
-
-/// The first status word of a fault.
-const FAULT: u32 = 0x200;
 
 /// The first status word of a loss.
 const LOST: u32 = 0x300;

@@ -13,11 +13,11 @@ returns-then-get-gt-LAST_DESCRIPTOR-clause-made c =
     let life : c.answered.result ≡ answered_life c.args.bank.now (minus 9) = cc in
     rw life (write_entry-closed c.args.tty c.args.bank.now _ _ _ closed (answers c.args.tty (minus 9) c.args.bank.now c.args.plant.now c.requires.in_kernel))
 
-pub returns-then-count-gt-MOST_BYTES-clause-made : goal.returns-then-count-gt-MOST_BYTES-clause-made
-returns-then-count-gt-MOST_BYTES-clause-made c =
+pub returns-then-count-gt-MOST_COUNT-clause-made : goal.returns-then-count-gt-MOST_COUNT-clause-made
+returns-then-count-gt-MOST_COUNT-clause-made c =
     let fd_open : register c.args.bank.now.regs 10 ≤ 2 = grind (arith, common_steps) in
     let large : nat_lt 0x7fffffff (register c.args.bank.now.regs 12) ≡ true = grind (arith, common_steps) in
-    let life : c.answered-then-count-gt-MOST_BYTES.result ≡ answered_life c.args.bank.now (minus 22) = cc in
+    let life : c.answered-then-count-gt-MOST_COUNT.result ≡ answered_life c.args.bank.now (minus 22) = cc in
     rw life (write_entry-invalid c.args.tty c.args.bank.now c.args.plant.now c.requires.in_kernel fd_open large)
 
 pub returns-then-count-eq0-clause-made : goal.returns-then-count-eq0-clause-made
