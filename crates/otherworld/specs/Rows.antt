@@ -6,8 +6,8 @@ use Rattle.ow_base.specs.declared.machine.Shape.{Shape}
 use Rattle.ow_base.specs.declared.worlds.World.{World}
 
 -- a world of program a, which is started once on terminal 0
-unfoldable pub world_of : (code values : List ℕ) → World
-world_of code values = record {
+unfoldable pub worked_world : (code values : List ℕ) → World
+worked_world code values = record {
   load = record {
     shape = record { user_frames = 32; sectors = 4; quantum = 100; budget = 1000 };
     files = [];
@@ -21,7 +21,7 @@ world_of code values = record {
 
 -- a program that makes the call exit(7)
 unfoldable pub exit_seven : World
-exit_seven = world_of (0x00700513 ∷ 0x00100893 ∷ 0x00000073 ∷ []) []
+exit_seven = worked_world (0x00700513 ∷ 0x00100893 ∷ 0x00000073 ∷ []) []
 
 unfoldable pub exit_seven_text : List ℕ
 exit_seven_text = codes "world 1\nframes 32\nsectors 4\nquantum 100\nbudget 1000\nprogram a\ncode 00700513 00100893 00000073\nstart a 0\nend\n"
@@ -31,7 +31,7 @@ exit_seven_report = codes "otherworld 1\nending done\nsteps 3\ntraps 2\nexit 1 c
 
 -- a program that writes Hi and a line feed by the call write(1, 0x11000, 3), and makes the call exit(0)
 unfoldable pub hi : World
-hi = world_of (0x00100513 ∷ 0x000115b7 ∷ 0x00300613 ∷ 0x00200893 ∷ 0x00000073 ∷ 0x00000513 ∷ 0x00100893 ∷ 0x00000073 ∷ [])
+hi = worked_world (0x00100513 ∷ 0x000115b7 ∷ 0x00300613 ∷ 0x00200893 ∷ 0x00000073 ∷ 0x00000513 ∷ 0x00100893 ∷ 0x00000073 ∷ [])
     (0x000a6948 ∷ [])
 
 unfoldable pub hi_text : List ℕ

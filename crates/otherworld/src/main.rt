@@ -13,7 +13,10 @@ mod top;
 pub use laws::one_run;
 use ow_base::{StdSink, StdSource};
 use ow_plant::Plant;
-pub use rows::{exit_seven_runs, hi_has_one_report, hi_runs, refusals_are_spelled, rows_are_no_worlds, rows_are_worlds};
+pub use rows::{
+    exit_seven_runs, hi_has_one_answer, hi_runs, refusals_are_spelled, rows_are_no_worlds,
+    rows_are_worlds,
+};
 use std::env::args;
 use std::io;
 use std::process::ExitCode;

@@ -1,17 +1,19 @@
 //! Worked examples. The functions do nothing: their contracts say what the definitions come to at two worlds
 //! and at the texts of refusals, and the check computes it.
 
-ghost use Rattle.std.specs.Prelude.{◌≡◌, ℕ, List, [], ◌∷◌, codes, Option, Some, None};
+ghost use Rattle.std.specs.Prelude.{◌≡◌, ℕ, true, List, [], ◌∷◌, codes, Option, Some, None, ◌⊎◌};
+ghost use Rattle.ow_base.specs.Outside.{appended, Rose};
 ghost use Rattle.ow_base.specs.World.{IsWorld};
 ghost use Rattle.ow_base.specs.Run.{Run};
 ghost use Rattle.ow_base.specs.Turn.{ending_of, closed};
 ghost use Rattle.ow_base.specs.Report.{report_of};
 ghost use Rattle.ow_base.specs.declared.worlds.World.{World};
-ghost use Rattle.ow_base.specs.declared.worlds.Ending.{Ending};
 ghost use Rattle.ow_base.specs.declared.worlds.Ending.TheVariants as ending;
 ghost use Rattle.ow_plant.specs.State.{PlantState};
+ghost use Rattle.otherworld.specs.declared.top.Status.{Status};
+ghost use Rattle.otherworld.specs.declared.top.Status.TheVariants as status;
 ghost use Rattle.otherworld.specs.declared.top.Why.TheVariants.{NotBuilt, TooLarge};
-ghost use Rattle.otherworld.specs.Top.{IsRun, bad_world_text, read_fault_text, memory_text, usage_text};
+ghost use Rattle.otherworld.specs.Top.{Answers, Intends, bad_world_text, read_fault_text, memory_text, usage_text};
 ghost use Rattle.otherworld.specs.Rows.{exit_seven, exit_seven_text, exit_seven_report, hi, hi_text, hi_report, few_frames_text, no_end_text, after};
 
 /// The texts of the two worlds spell them.
@@ -49,12 +51,15 @@ pub const fn hi_runs()
     ensures report { report_of ending.Done (closed (after hi 8)) ≡ hi_report }
 {}
 
-/// With the text of hi as input, a run that may be reported ends with Done and 8 steps and 3 traps, leaves
-/// nothing of the input, and has this report and no other.
-pub const fn hi_has_one_report()
-    ensures { (left : Option (List ℕ)) (plant : PlantState) (how : Ending) (text : List ℕ)
-        → IsRun (Some hi_text) left plant how text
-        → (how ≡ ending.Done) × (plant.steps ≡ 8) × (plant.traps ≡ 3) × (left ≡ Some []) × (text ≡ hi_report) }
+/// What the contract of `otherworld` lets it answer to the words `run` and the text of hi, where no fault of
+/// source or sink rises: Done, with this report, 8 steps, 3 traps, and nothing left of the input; or Memory,
+/// with its text, and the plant as it was.
+pub const fn hi_has_one_answer()
+    ensures { (left written all : Option (List ℕ)) (old new : PlantState) (answer : Status) (reads more_reads writes more_writes : ℕ)
+        → Answers (Intends true (Some hi_text) left (Rose reads more_reads) old new) (Rose writes more_writes) written all answer
+        → (Rose reads more_reads → ⊥) → (Rose writes more_writes → ⊥)
+        → ((answer ≡ status.Done) × (all ≡ appended written hi_report) × (new.steps ≡ 8) × (new.traps ≡ 3) × (left ≡ Some []))
+        ⊎ ((answer ≡ status.Memory) × (all ≡ appended written memory_text) × (new ≡ old)) }
 {}
 
 /// The texts of the refusals.
