@@ -40,7 +40,7 @@ hi_text = codes "world 1\nframes 32\nsectors 4\nquantum 100\nbudget 1000\nprogra
 unfoldable pub hi_report : List ℕ
 hi_report = codes "otherworld 1\nending done\nsteps 8\ntraps 3\nexit 1 code 0\ntty 0 3\nout Hi\\n\nscreen 0 1 0\nrow 0 Hi\ntty 1 0\nscreen 1 0 0\nend\n"
 
--- the program needs six frames, for a page of code, one of data and four of stack, and there are five
+-- a world has 16 frames at least
 unfoldable pub few_frames_text : List ℕ
 few_frames_text = codes "world 1\nframes 5\nsectors 4\nquantum 100\nbudget 1000\nprogram a\ncode 00100513 000115b7 00300613 00200893 00000073 00000513 00100893 00000073\ndata 000a6948\nstart a 0\nend\n"
 

@@ -22,7 +22,8 @@ pub const fn rows_are_worlds()
     ensures hi { IsWorld hi_text hi }
 {}
 
-/// Texts that spell no world: none at all, one with a frame too few, and one without its last line.
+/// Texts that spell no world: none at all, one with five frames, where 16 are the fewest, and one
+/// without its last line.
 pub const fn rows_are_no_worlds()
     ensures empty { (world : World) → IsWorld [] world → ⊥ }
     ensures few_frames { (world : World) → IsWorld few_frames_text world → ⊥ }
