@@ -8,3 +8,4 @@ pub mod Loading
 pub mod Starting
 pub mod Tops
 pub mod Reports
+pub mod Worked

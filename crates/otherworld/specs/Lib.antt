@@ -2,3 +2,4 @@
 pub mod State
 pub mod Top
 pub mod Writing
+pub mod Rows

@@ -6,12 +6,17 @@ mod boot;
 mod kernel_traps;
 mod laws;
 mod ow_report;
+mod rows;
 mod schedule_runner;
 mod top;
 
 pub use laws::one_run;
 use ow_base::{StdSink, StdSource};
 use ow_plant::Plant;
+pub use rows::{
+    exit_seven_runs, hi_has_one_answer, hi_runs, refusals_are_spelled, rows_are_no_worlds,
+    rows_are_worlds,
+};
 use std::env::args;
 use std::io;
 use std::process::ExitCode;

@@ -1,0 +1,159 @@
+-- The worked examples, computed.
+use Rattle.std.proofs.Common.{◌≡◌, ℕ, ◌<◌, ◌⊎◌, inl, inr, true, refl, ap, sym, subst, ◌∙◌, arith, List, [], length, Option, Some, None}
+use Rattle.std.proofs.lemmas.Option.{none-some}
+use Rattle.std.specs.Fmt.{digits}
+use Rattle.ow_base.specs.Lines.{hex8, escaped_byte}
+use Rattle.ow_base.specs.UserStep.{immediate_act, register_act, branch_act, load_act, store_act, system_act, act_of, gone_to, after_load, after_store, acted, after_fetch, user_step}
+use Rattle.ow_base.specs.Pages.{page_space, is_readable, bytes_at}
+use Rattle.ow_base.specs.Unix.{Unix, started_rights, started_byte, started_pages, started_process, started_as, started_description, start_of}
+use Rattle.ow_base.specs.Choice.{least_from, chosen, is_any_live, settled}
+use Rattle.ow_base.specs.Calls.{trapped, answered, stays_in, ended_as, description_of, tty_write, write_entry, exit_entry, called, entered, continued, piece_of}
+use Rattle.ow_base.specs.Turn.{step_of, stepped, user_turn, idled, turn_at, turn, ending_of, closed}
+use Rattle.ow_base.specs.Run.{Run, RunsFrom, ends, goes_on}
+use Rattle.ow_base.specs.Screen.{blank_screen, on_next_line, printed, drawn, screen_of}
+use Rattle.ow_base.specs.Report.{head_text, status_words, process_lines, out_lines, trimmed, row_lines, screen_text, terminal_text, report_of}
+use Rattle.ow_base.specs.Outside.{appended}
+use Rattle.ow_base.specs.World.{IsWorld}
+use Rattle.ow_base.specs.declared.machine.Shape.{Shape}
+use Rattle.ow_base.specs.declared.worlds.World.{World}
+use Rattle.ow_base.specs.declared.worlds.Ending.{Ending}
+use Rattle.ow_base.specs.declared.worlds.Ending.TheVariants.{Done, Budget, Restarted}
+use Rattle.ow_base.specs.declared.worlds.PanicRecord.{PanicRecord}
+use Rattle.ow_plant.specs.State.{PlantState}
+use Rattle.world_file.specs.WorldReading.{cut, pieces, behind_line, number_of, word_of, number_at, shape_at, word_at, words_in, word_line_at, word_lines_at, name_at, program_at, start_at, world_in}
+use Rattle.world_file.proofs.WorldLaws.{text_reads, world_accepts, one_world}
+use Rattle.otherworld.specs.declared.top.Status.{Status}
+use Rattle.otherworld.specs.declared.top.Status.TheVariants as status
+use Rattle.otherworld.specs.declared.top.Why.TheVariants.{NotBuilt, TooLarge}
+use Rattle.otherworld.specs.Top.{Answers, Intends, IsSaid, IsRun, IsReported, most_bytes, memory_text}
+use Rattle.otherworld.specs.Rows.{worked_world, exit_seven, exit_seven_text, exit_seven_report, hi, hi_text, hi_report, few_frames_text, no_end_text, turned, after}
+
+-- `unfolding rows` lets `refl` compute the reading of a text, a run and a report
+unfoldable pub rows : Unit {0}
+unfolding digits hex8 escaped_byte immediate_act register_act branch_act load_act store_act system_act act_of gone_to after_load after_store acted after_fetch user_step page_space is_readable bytes_at started_rights started_byte started_pages started_process started_as started_description start_of least_from chosen is_any_live settled trapped answered stays_in ended_as description_of tty_write write_entry exit_entry called entered continued piece_of step_of stepped user_turn idled turn_at turn ending_of closed blank_screen on_next_line printed drawn screen_of head_text status_words process_lines out_lines trimmed row_lines screen_text terminal_text report_of cut pieces behind_line number_of word_of number_at shape_at word_at words_in word_line_at word_lines_at name_at program_at start_at world_in worked_world exit_seven exit_seven_text exit_seven_report hi hi_text hi_report few_frames_text no_end_text turned after
+rows = tt
+
+-- the texts of the worlds
+pub exit_seven_world : IsWorld exit_seven_text exit_seven
+unfolding rows
+exit_seven_world = text_reads exit_seven_text exit_seven refl
+
+pub hi_world : IsWorld hi_text hi
+unfolding rows
+hi_world = text_reads hi_text hi refl
+
+-- a text that reads as nothing is that of no world
+no_world : (text : List ℕ) (world : World) → world_in (pieces 10 text) ≡ None → IsWorld text world → ⊥
+no_world text world none is = none-some world (sym none ∙ world_accepts text world is)
+
+pub empty_no_world : (world : World) → IsWorld [] world → ⊥
+unfolding rows
+empty_no_world world is = no_world [] world refl is
+
+pub few_frames_no_world : (world : World) → IsWorld few_frames_text world → ⊥
+unfolding rows
+few_frames_no_world world is = no_world few_frames_text world refl is
+
+pub no_end_no_world : (world : World) → IsWorld no_end_text world → ⊥
+unfolding rows
+no_end_no_world world is = no_world no_end_text world refl is
+
+-- a turn more of a run that ends done
+more : (shape : Shape) (u w : Unix) → ending_of shape u ≡ None → RunsFrom shape (turn shape u) [] Done w → RunsFrom shape u [] Done w
+more shape u w e r = goes_on u [] Done w e r
+
+-- the runs
+pub exit_seven_run : Run exit_seven [] Done (closed (after exit_seven 3))
+unfolding rows
+exit_seven_run =
+    let shape = exit_seven.load.shape in
+    let w = closed (after exit_seven 3) in
+    more shape (after exit_seven 0) w refl (more shape (after exit_seven 1) w refl (more shape (after exit_seven 2) w refl
+    (ends (after exit_seven 3) Done refl)))
+
+pub hi_run : Run hi [] Done (closed (after hi 8))
+unfolding rows
+hi_run =
+    let shape = hi.load.shape in
+    let w = closed (after hi 8) in
+    more shape (after hi 0) w refl (more shape (after hi 1) w refl (more shape (after hi 2) w refl (more shape (after hi 3) w refl
+    (more shape (after hi 4) w refl (more shape (after hi 5) w refl (more shape (after hi 6) w refl (more shape (after hi 7) w refl
+    (ends (after hi 8) Done refl))))))))
+
+-- two runs from one state are one, whatever their histories
+one : (shape : Shape) (u : Unix) (h k : List PanicRecord) (a b : Ending) (v w : Unix) → RunsFrom shape u h a v → RunsFrom shape u k b w → (a ≡ b) × (v ≡ w)
+one shape u h k a b v w (ends u1 a1 e) (ends u2 b2 f) = let same : a ≡ b = cc in (same, refl)
+one shape u h k a b v w (ends u1 a1 e) (goes_on u2 h2 b2 w2 f s) = absurd (cc (e, f))
+one shape u h k a b v w (goes_on u1 h1 a1 v1 e r) (ends u2 b2 f) = absurd (cc (e, f))
+one shape u h k a b v w (goes_on u1 h1 a1 v1 e r) (goes_on u2 h2 b2 w2 f s) = one shape (turn shape u) h k a b v w r s
+
+pub hi_steps : (closed (after hi 8)).steps ≡ 8
+unfolding rows
+hi_steps = refl
+
+pub hi_traps : (closed (after hi 8)).traps ≡ 3
+unfolding rows
+hi_traps = refl
+
+pub hi_reports : report_of Done (closed (after hi 8)) ≡ hi_report
+unfolding rows
+hi_reports = refl
+
+-- what is reported of the world hi
+of_hi : (plant : PlantState) (ending : Ending) (text : List ℕ) → IsReported hi plant ending text → (ending ≡ Done) × (plant.steps ≡ 8) × (plant.traps ≡ 3) × (text ≡ hi_report)
+of_hi plant ending text is =
+    let same = one hi.load.shape (start_of hi.load) plant.history [] ending Done is.w (closed (after hi 8)) is.run hi_run in (
+      same.0,
+      is.agrees.steps ∙ ap (λ (w : Unix). w.steps) same.1 ∙ hi_steps,
+      is.agrees.traps ∙ ap (λ (w : Unix). w.traps) same.1 ∙ hi_traps,
+      is.reported ∙ ap (λ w. report_of ending w) same.1 ∙ ap (λ e. report_of e (closed (after hi 8))) same.0 ∙ hi_reports,
+    )
+
+one_report : (left : Option (List ℕ)) (plant : PlantState) (ending : Ending) (text : List ℕ) → IsRun (Some hi_text) left plant ending text
+    → (ending ≡ Done) × (plant.steps ≡ 8) × (plant.traps ≡ 3) × (left ≡ Some []) × (text ≡ hi_report)
+one_report left plant ending text run =
+    let read = run.1 in
+    let spelled = subst (λ bytes. IsWorld bytes run.0) read.told.0 read.value in
+    let same = one_world hi_text run.0 hi spelled hi_world in
+    let found = of_hi plant ending text (subst (λ world. IsReported world plant ending text) same run.2) in
+    (found.0, found.1, found.2, read.told.1, found.3)
+
+hi_is_small : most_bytes < length hi_text → ⊥
+unfolding rows
+hi_is_small more = omega (arith, more)
+
+module _ (left : Option (List ℕ)) (read_rose : Type 0) (old new : PlantState) where
+  -- a status that may be answered to the text of hi
+  abbrev Meant : Status → (text : List ℕ) → Type 0
+  Meant answer text = ((answer ≡ status.Done) × (text ≡ hi_report) × (new.steps ≡ 8) × (new.traps ≡ 3) × (left ≡ Some []))
+      ⊎ ((answer ≡ status.Memory) × (text ≡ memory_text) × (new ≡ old))
+
+  meant : (answer : Status) (text : List ℕ) → (read_rose → ⊥) → Intends true (Some hi_text) left read_rose old new answer text → Meant answer text
+  meant status.Usage text calm is = absurd (cc is.0)
+  meant (status.BadWorld number NotBuilt) text calm is = absurd (is.2.1 hi hi_world)
+  meant (status.BadWorld number TooLarge) text calm is = absurd (hi_is_small is.2.0)
+  meant status.ReadFault text calm is = absurd (calm is.1)
+  meant status.WriteFault text calm is = absurd is
+  meant status.Memory text calm is = inr (refl, is.2, is.1)
+  meant status.Done text calm is = let r = one_report left new Done text is.1 in inl (refl, r.4, r.1, r.2, r.3)
+  meant status.Budget text calm is = let r = one_report left new Budget text is.1 in absurd (cc r.0)
+  meant status.Restarted text calm is = let r = one_report left new Restarted text is.1 in absurd (cc r.0)
+
+  -- a text that is said where the sink does not fail
+  said : (text : List ℕ) (answer given : Status) (write_rose : Type 0) (written all : Option (List ℕ)) → (write_rose → ⊥)
+      → IsSaid text answer write_rose written all given → (given ≡ answer) × (all ≡ appended written text)
+  said text answer given write_rose written all calm (inl is) = is
+  said text answer given write_rose written all calm (inr is) = absurd (calm is.1)
+
+  answers : (text : List ℕ) (answer given : Status) (written all : Option (List ℕ)) → Meant answer text → (given ≡ answer) × (all ≡ appended written text)
+      → ((given ≡ status.Done) × (all ≡ appended written hi_report) × (new.steps ≡ 8) × (new.traps ≡ 3) × (left ≡ Some []))
+      ⊎ ((given ≡ status.Memory) × (all ≡ appended written memory_text) × (new ≡ old))
+  answers text answer given written all (inl m) is = inl (is.0 ∙ m.0, is.1 ∙ ap (appended written) m.1, m.2, m.3, m.4)
+  answers text answer given written all (inr m) is = inr (is.0 ∙ m.0, is.1 ∙ ap (appended written) m.1, m.2)
+
+  pub one_answer : (write_rose : Type 0) (written all : Option (List ℕ)) (given : Status) → Answers (Intends true (Some hi_text) left read_rose old new) write_rose written all given
+      → (read_rose → ⊥) → (write_rose → ⊥)
+      → ((given ≡ status.Done) × (all ≡ appended written hi_report) × (new.steps ≡ 8) × (new.traps ≡ 3) × (left ≡ Some []))
+      ⊎ ((given ≡ status.Memory) × (all ≡ appended written memory_text) × (new ≡ old))
+  one_answer write_rose written all given is no_read no_write =
+      answers is.1 is.0 given written all (meant is.0 is.1 no_read is.2) (said is.1 is.0 given write_rose written all no_write is.3)

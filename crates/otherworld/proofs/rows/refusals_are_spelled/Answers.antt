@@ -1,0 +1,25 @@
+-- Computed by `refl`, or by the lemmas on the worked worlds.
+use Rattle.std.proofs.Common.{refl}
+use Rattle.std.specs.Fmt.{digits}
+use Rattle.otherworld.specs.Top.{bad_world_text, read_fault_text, memory_text, usage_text}
+use Rattle.otherworld.proofs.rows.refusals_are_spelled.Goals as goal
+
+pub returns-clause-not_built : goal.returns-clause-not_built
+unfolding bad_world_text digits
+returns-clause-not_built c = refl
+
+pub returns-clause-too_large : goal.returns-clause-too_large
+unfolding bad_world_text digits
+returns-clause-too_large c = refl
+
+pub returns-clause-read_fault : goal.returns-clause-read_fault
+unfolding read_fault_text
+returns-clause-read_fault c = refl
+
+pub returns-clause-memory : goal.returns-clause-memory
+unfolding memory_text
+returns-clause-memory c = refl
+
+pub returns-clause-usage : goal.returns-clause-usage
+unfolding usage_text
+returns-clause-usage c = refl

@@ -1,0 +1,73 @@
+//! Worked examples. The functions do nothing: their contracts say what the definitions come to at two worlds
+//! and at the texts of refusals, and the check computes it.
+
+ghost use Rattle.std.specs.Prelude.{◌≡◌, ℕ, true, List, [], ◌∷◌, codes, Option, Some, None, ◌⊎◌};
+ghost use Rattle.ow_base.specs.Outside.{appended, Rose};
+ghost use Rattle.ow_base.specs.World.{IsWorld};
+ghost use Rattle.ow_base.specs.Run.{Run};
+ghost use Rattle.ow_base.specs.Turn.{ending_of, closed};
+ghost use Rattle.ow_base.specs.Report.{report_of};
+ghost use Rattle.ow_base.specs.declared.worlds.World.{World};
+ghost use Rattle.ow_base.specs.declared.worlds.Ending.TheVariants as ending;
+ghost use Rattle.ow_plant.specs.State.{PlantState};
+ghost use Rattle.otherworld.specs.declared.top.Status.{Status};
+ghost use Rattle.otherworld.specs.declared.top.Status.TheVariants as status;
+ghost use Rattle.otherworld.specs.declared.top.Why.TheVariants.{NotBuilt, TooLarge};
+ghost use Rattle.otherworld.specs.Top.{Answers, Intends, bad_world_text, read_fault_text, memory_text, usage_text};
+ghost use Rattle.otherworld.specs.Rows.{exit_seven, exit_seven_text, exit_seven_report, hi, hi_text, hi_report, few_frames_text, no_end_text, after};
+
+/// The texts of the two worlds spell them.
+pub const fn rows_are_worlds()
+    ensures exit_seven { IsWorld exit_seven_text exit_seven }
+    ensures hi { IsWorld hi_text hi }
+{}
+
+/// Texts that spell no world: none at all, one with five frames, where 16 are the fewest, and one
+/// without its last line.
+pub const fn rows_are_no_worlds()
+    ensures empty { (world : World) → IsWorld [] world → ⊥ }
+    ensures few_frames { (world : World) → IsWorld few_frames_text world → ⊥ }
+    ensures no_end { (world : World) → IsWorld no_end_text world → ⊥ }
+{}
+
+/// A run of exit_seven is two instructions and a trap, and the closing trap.
+pub const fn exit_seven_runs()
+    ensures goes_on { (ending_of exit_seven.load.shape (after exit_seven 0) ≡ None)
+        × (ending_of exit_seven.load.shape (after exit_seven 1) ≡ None)
+        × (ending_of exit_seven.load.shape (after exit_seven 2) ≡ None) }
+    ensures ends { ending_of exit_seven.load.shape (after exit_seven 3) ≡ Some ending.Done }
+    ensures run { Run exit_seven [] ending.Done (closed (after exit_seven 3)) }
+    ensures counts { ((closed (after exit_seven 3)).steps ≡ 3) × ((closed (after exit_seven 3)).traps ≡ 2) }
+    ensures code { (closed (after exit_seven 3)).exits 1 ≡ Some 7 }
+    ensures report { report_of ending.Done (closed (after exit_seven 3)) ≡ exit_seven_report }
+{}
+
+/// A run of hi is six instructions and two traps, and the closing trap. Its tape is `Hi` and a line feed.
+pub const fn hi_runs()
+    ensures ends { ending_of hi.load.shape (after hi 8) ≡ Some ending.Done }
+    ensures run { Run hi [] ending.Done (closed (after hi 8)) }
+    ensures counts { ((closed (after hi 8)).steps ≡ 8) × ((closed (after hi 8)).traps ≡ 3) }
+    ensures code { (closed (after hi 8)).exits 1 ≡ Some 0 }
+    ensures tape { ((closed (after hi 8)).terminals 0).tape ≡ 72 ∷ 105 ∷ 10 ∷ [] }
+    ensures report { report_of ending.Done (closed (after hi 8)) ≡ hi_report }
+{}
+
+/// What the contract of `otherworld` lets it answer to the words `run` and the text of hi, where no fault of
+/// source or sink rises: Done, with this report, 8 steps, 3 traps, and nothing left of the input; or Memory,
+/// with its text, and the plant as it was.
+pub const fn hi_has_one_answer()
+    ensures { (left written all : Option (List ℕ)) (old new : PlantState) (answer : Status) (reads more_reads writes more_writes : ℕ)
+        → Answers (Intends true (Some hi_text) left (Rose reads more_reads) old new) (Rose writes more_writes) written all answer
+        → (Rose reads more_reads → ⊥) → (Rose writes more_writes → ⊥)
+        → ((answer ≡ status.Done) × (all ≡ appended written hi_report) × (new.steps ≡ 8) × (new.traps ≡ 3) × (left ≡ Some []))
+        ⊎ ((answer ≡ status.Memory) × (all ≡ appended written memory_text) × (new ≡ old)) }
+{}
+
+/// The texts of the refusals.
+pub const fn refusals_are_spelled()
+    ensures not_built { bad_world_text 0 NotBuilt ≡ codes "bad world line 0: not built\n" }
+    ensures too_large { bad_world_text 0 TooLarge ≡ codes "bad world line 0: too large\n" }
+    ensures read_fault { read_fault_text ≡ codes "read fault\n" }
+    ensures memory { memory_text ≡ codes "out of memory\n" }
+    ensures usage { usage_text ≡ codes "usage: otherworld run | run --evidence | asm | gen N\n" }
+{}
