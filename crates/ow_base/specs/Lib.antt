@@ -2,6 +2,7 @@
 pub mod Words
 pub mod UserStep
 pub mod Pages
+pub mod Sv32
 pub mod Screen
 pub mod Unix
 pub mod Choice

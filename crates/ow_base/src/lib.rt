@@ -3,6 +3,7 @@
 
 mod fakes;
 mod machine;
+mod memory;
 mod numerals;
 mod outside;
 mod sequence;
@@ -11,7 +12,10 @@ mod transfer;
 mod worlds;
 
 pub use fakes::{FixedSink, FixedSource, MemSink, MemSource};
-pub use machine::{AreaId, Bank, Came, Fault, Panicked, Regs, Rights, Shape, Width};
+pub use machine::{
+    Access, AreaId, Bank, Came, Fault, PageCause, Panicked, Phys, Regs, Rights, Shape, Width,
+};
+pub use memory::WordSource;
 pub use numerals::{decimal, hex8};
 pub use outside::{Failed, Sink, Source};
 pub use sequence::List;

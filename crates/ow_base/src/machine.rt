@@ -81,6 +81,29 @@ pub enum Rights {
     Values,
 }
 
+/// What a program does at an address: it fetches an instruction, loads or stores.
+#[derive(Clone, Copy, Debug, PartialEq, Eq)]
+pub enum Access {
+    Fetch,
+    Load,
+    Store,
+}
+
+/// A place in memory: a frame, and the offset of a byte in it, below 4,096.
+#[derive(Clone, Copy, Debug, PartialEq, Eq)]
+pub struct Phys {
+    pub frame: u32,
+    pub offset: u32,
+}
+
+/// Why an address leads to no place in memory: the page tables do not give the right to it, or a table or
+/// the place itself lies in a frame that is not there.
+#[derive(Clone, Copy, Debug, PartialEq, Eq)]
+pub enum PageCause {
+    Page,
+    Access,
+}
+
 /// From where the processor came into the kernel.
 #[derive(Clone, Copy, Debug, PartialEq, Eq)]
 pub enum Came {

@@ -68,7 +68,12 @@ pub struct Damage {
 }
 
 impl Default for Damage {
-    fn default() -> Self {
+    ghost use Rattle.std.specs.Prelude.{◌≡◌};
+
+    /// The first word of the head, in which no bit changes.
+    fn default() -> Self
+        ensures { result ≡ record { kind = DamageKind.Head; index = 0; page = 0; word = 0; mask = 0 } }
+    {
         Damage {
             kind: DamageKind::Head,
             index: 0,
