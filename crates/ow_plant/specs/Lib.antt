@@ -1,3 +1,2 @@
 -- The definitions that the plant's contracts cite.
 pub mod State
-pub mod Kept

@@ -1,12 +1,12 @@
-//! The machine that a kernel runs on: pages of memory, two terminals, a processor in user mode, and counts
-//! of steps and traps. It has no disk yet, nothing is typed, and no panic comes.
+//! The machine that a kernel runs on: memory of frames, two terminals, a processor whose user mode sees
+//! memory through page tables, and counts of steps and traps. It has no disk yet, nothing is typed, and no
+//! panic comes.
 #![tactic(auto)]
 
 mod displays;
 mod machine;
-mod pages;
-mod spaces;
 mod terminals;
+mod user_memory;
 
 pub use displays::Display;
 pub use machine::Plant;

@@ -1,27 +1,32 @@
 //! The plant: processor, memory and terminals.
 ghost use Rattle.std.specs.Prelude.{◌≡◌, ℕ, ◌+◌, ◌*◌, ◌^◌, ◌<◌, ◌≤◌, ◌↔◌, true, false, [], None, length, IsNone, IsOk, IfSome, OnOk, OnErr};
-ghost use Rattle.ow_base.specs.Pages.{with_page, rights_at};
-ghost use Rattle.ow_plant.specs.State.{IsReady, TakesUserTurn, pages_of, placed_count, rights_of, returned_to, entered, with_put, tty_of};
+ghost use Rattle.phys_memory.specs.Memory.{frame_count, words_of};
+ghost use Rattle.ow_plant.specs.State.{IsReady, TakesUserTurn, returned_to, entered, with_put, with_stored, tty_of};
 
 use crate::UserEnd;
 use crate::displays::Display;
-use crate::pages::Memory;
 use crate::terminals::Tty;
-use ow_base::{Bank, Came, KeyByte, PanicRecord, Panicked, Point, Regs, Shape};
+use crate::user_memory::UserMemory;
+use ow_base::{Bank, Came, KeyByte, PanicRecord, Panicked, Point, Regs, Shape, WordSource};
+use phys_memory::Memory;
 use rv32_user::{StepEnd, step};
 use std::alloc::{AllocError, Global};
 use std::marker::Model;
 
-/// The machine that a kernel runs on: pages of memory, two terminals, the processor's registers, and
-/// counts of steps and traps.
+/// MODE of the register satp that turns Sv32 on (RISC-V manual, volume II).
+const SV32: u32 = 1 << 31;
+
+/// The machine that a kernel runs on: memory, two terminals, the processor's registers, and counts of steps
+/// and traps.
 ///
-/// A plant is made empty by `new` and gets its memory by `arm`; after that no call allocates. Contracts
-/// see it as a `PlantState`.
+/// Memory is frames of 1,024 words: the boot frame, and then two halves, each with 64 frames of area, 64
+/// of cache and as many of pages as the shape says. A plant is made empty by `new` and gets its memory by
+/// `arm`; after that no call allocates. Contracts see it as a `PlantState`.
 #[derive(Drop)]
 pub struct Plant {
     armed: bool,
     shape: Shape,
-    memory: Memory,
+    seen: UserMemory,
     bank: Bank,
     in_user: bool,
     user_pid: u32,
@@ -34,7 +39,6 @@ pub struct Plant {
 }
 
 impl Model for Plant {
-    ghost use Rattle.std.specs.Prelude.{◌≡◌, true, length};
     ghost use Rattle.ow_plant.specs.State.{PlantState};
 
     ghost Value = { PlantState };
@@ -42,7 +46,8 @@ impl Model for Plant {
     ghost view = { λ p. record {
       armed = p.armed;
       shape = p.shape;
-      pages = p.memory;
+      memory = p.seen.memory;
+      satp = p.seen.satp;
       bank = p.bank;
       in_user = p.in_user;
       user_pid = p.user_pid;
@@ -53,14 +58,13 @@ impl Model for Plant {
       traps = p.traps;
       history = p.history.items;
     } };
-
-    ghost invariant = { λ p. p.armed ≡ true → length p.memory.frames ≡ p.shape.user_frames };
 }
 
 impl Plant {
     /// A plant with no memory, which is not armed.
     pub fn new(alloc: Global) -> Plant
         ensures idle { result.armed ≡ false }
+        ensures no_frame { frame_count result.memory ≡ 0 }
         ensures history { result.history ≡ [] }
     {
         let shape = Shape {
@@ -76,7 +80,10 @@ impl Plant {
         Plant {
             armed: false,
             shape,
-            memory: Memory::new(alloc),
+            seen: UserMemory {
+                memory: Memory::without_frames(alloc),
+                satp: SV32,
+            },
             bank,
             in_user: false,
             user_pid: 0,
@@ -89,8 +96,9 @@ impl Plant {
         }
     }
 
-    /// Makes memory of `user_frames` pages, and two terminals with room for 16 bytes a step of the
-    /// budget. Nothing is typed and no panic is armed yet. For want of memory nothing changes.
+    /// Makes memory with `user_frames` frames for pages in each half, all zero, and two terminals with room
+    /// for 16 bytes a step of the budget. Nothing is typed and no panic is armed yet. For want of memory
+    /// nothing changes.
     pub fn arm(
         &mut self,
         alloc: Global,
@@ -111,12 +119,12 @@ impl Plant {
         ensures err { OnErr result (self.new ≡ self.old) }
     {
         let room = 16 * shape.budget as usize;
-        let memory = Memory::with_frames(alloc, shape.user_frames as usize)?;
+        let memory = Memory::new(alloc, shape.user_frames)?;
         let tty0 = Tty::with_room(alloc, room)?;
         let tty1 = Tty::with_room(alloc, room)?;
         self.armed = true;
         self.shape = shape;
-        self.memory = memory;
+        self.seen.memory = memory;
         self.in_user = false;
         self.tty0 = tty0;
         self.tty1 = tty1;
@@ -126,37 +134,50 @@ impl Plant {
         Ok(())
     }
 
-    /// Puts a page of 1,024 words in the next frame, with code in it or values that can be written.
-    /// A frame must be left, and the page not yet be there.
-    pub fn place(&mut self, page: u32, writable: bool, words: &[u32; 1024])
-        requires armed { self.old.armed ≡ true }
-        requires room { placed_count self.old.pages < self.old.shape.user_frames }
-        requires number { page < 2 ^ 20 }
-        requires new_page { (pages_of self.old.pages).rights page ≡ None }
-        ensures pages { pages_of self.new.pages ≡ with_page (pages_of self.old.pages) page (rights_of writable) words.now }
-        ensures count { placed_count self.new.pages ≡ placed_count self.old.pages + 1 }
-        ensures rest { self.new ≡ record self.old { pages = self.new.pages } }
-    {
-        self.memory.place(page, writable, words);
-    }
-
-    /// The byte at an address of the program, or `None` where it has no page.
-    pub fn user_byte(&self, addr: u32) -> Option<u8>
+    /// The word of a frame at a place below 1,024. The frame must be there.
+    #[tactic(auto, unfolding(phys_memory::specs::Memory::words_of))]
+    pub fn load(&self, frame: u32, word: u32) -> u32
         requires armed { self.now.armed ≡ true }
-        ensures none { IsNone result ↔ (rights_at (pages_of self.now.pages) addr ≡ None) }
-        ensures some { IfSome result (λ b. b ≡ (pages_of self.now.pages).bytes addr) }
+        requires word { word < 1024 }
+        requires frame { frame < frame_count self.now.memory }
+        ensures { words_of self.now.memory frame word ≡ Some result }
     {
-        self.memory.byte(addr)
+        match self.seen.memory.load(frame, word) {
+            Some(value) => value,
+            None => unreachable!(),
+        }
     }
 
-    /// Loads the bank of a process, and begins a slice in user mode. There is one space of pages yet, so
-    /// its root is 0.
+    /// Sets the word of a frame at a place below 1,024. The frame must be there. No panic is armed yet, so it
+    /// always succeeds.
+    pub fn store(&mut self, frame: u32, word: u32, value: u32) -> Result<(), Panicked>
+        requires armed { self.old.armed ≡ true }
+        requires word { word < 1024 }
+        requires frame { frame < frame_count self.old.memory }
+        ensures ok { IsOk result }
+        ensures stored { self.new ≡ with_stored self.old frame word value }
+    {
+        self.seen.memory.store(frame, word, value);
+        Ok(())
+    }
+
+    /// Makes what was stored in page tables count for what a program sees. There is no translation cache yet,
+    /// so nothing is done.
+    pub fn fence(&mut self)
+        requires armed { self.old.armed ≡ true }
+        ensures { self.new ≡ self.old }
+    {
+    }
+
+    /// Loads the bank of a process, whose root table is in a frame below 2^22, and begins a slice in user
+    /// mode.
     pub fn to_user(&mut self, pid: u32, bank: &Bank, root: u32)
         requires armed { self.old.armed ≡ true }
-        requires one_space { root ≡ 0 }
-        ensures { self.new ≡ returned_to self.old pid bank.now }
+        requires root { root < 2 ^ 22 }
+        ensures { self.new ≡ returned_to self.old pid bank.now root }
     {
         self.bank = *bank;
+        self.seen.satp = SV32 + root;
         self.in_user = true;
         self.user_pid = pid;
         self.slice = 0;
@@ -203,16 +224,17 @@ impl Plant {
     }
 
     /// A turn of the process in user mode. After `quantum` instructions its slice is over, and nothing is
-    /// done; else one instruction is made. At a call and at a fault nothing changes.
+    /// done; else one instruction is made, on memory as its page tables show it. At a call and at a fault nothing changes.
     pub fn user_step(&mut self) -> UserEnd
         requires armed { self.old.armed ≡ true }
         requires in_user { self.old.in_user ≡ true }
-        ensures { TakesUserTurn self.old self.new result }
+        ensures turn { TakesUserTurn self.old self.new result }
+        ensures pc { self.old.bank.pc < 2 ^ 32 }
     {
         if self.slice >= self.shape.quantum {
             return UserEnd::Slice;
         }
-        match step(&mut self.bank.regs, &mut self.bank.pc, &mut self.memory) {
+        match step(&mut self.bank.regs, &mut self.bank.pc, &mut self.seen) {
             StepEnd::Next => {
                 self.slice += 1;
                 self.steps = self.steps.saturating_add(1);
@@ -292,5 +314,13 @@ impl Plant {
         ensures { result.now ≡ self.now.history }
     {
         &self.history
+    }
+}
+
+impl WordSource for Plant {
+    ghost words = { λ p. words_of p.memory };
+
+    fn load(&self, frame: u32, word: u32) -> Option<u32> {
+        self.seen.memory.load(frame, word)
     }
 }
