@@ -1,0 +1,2 @@
+-- The definitions that the contracts cite: the entries of page tables.
+pub mod Entries
