@@ -56,6 +56,7 @@ impl Entry {
     }
 
     /// Whether the entry counts. W without R is reserved, and does not.
+    #[tactic(auto, unfolding(ow_base::specs::Sv32::is_valid))]
     pub fn is_valid(self) -> bool
         ensures { result ≡ is_valid self.word }
     {
@@ -63,6 +64,7 @@ impl Entry {
     }
 
     /// Whether the entry, if it counts, leads to pages and not to a further table.
+    #[tactic(auto, unfolding(ow_base::specs::Sv32::is_leaf))]
     pub fn is_leaf(self) -> bool
         ensures { result ≡ is_leaf self.word }
     {
@@ -71,6 +73,7 @@ impl Entry {
 
     /// Whether a leaf gives this access to a program. A and D are never set by a walk: where one of them is
     /// wanted and clear, the access is refused.
+    #[tactic(auto, unfolding(ow_base::specs::Sv32::permits))]
     pub fn permits(self, access: Access) -> bool
         ensures { result ≡ permits access self.word }
     {

@@ -9,6 +9,7 @@ ghost use Rattle.ow_base.specs.declared.machine.PageCause.TheVariants as cause;
 ghost use Rattle.sv32_tables.specs.Entries.{granted, leaf_word, pointer_word};
 
 /// A leaf leads each access that its rights give to the frame that it was made for, and refuses the others.
+#[tactic(auto, using(crate::proofs::Entries::leaf_read_back))]
 pub const fn leaf_is_read_back()
     ensures { (words : WordMap) (access : Access) (address frame : ℕ) (rights : Rights) → frame < 2 ^ 22
         → by_last words access address (Some (leaf_word frame rights))
@@ -16,6 +17,7 @@ pub const fn leaf_is_read_back()
 {}
 
 /// A pointer leads each access on to the table that it was made for.
+#[tactic(auto, using(crate::proofs::Entries::pointer_read_back))]
 pub const fn pointer_is_read_back()
     ensures { (words : WordMap) (access : Access) (address frame : ℕ) → frame < 2 ^ 22
         → by_first words access address (Some (pointer_word frame))
@@ -23,6 +25,7 @@ pub const fn pointer_is_read_back()
 {}
 
 /// Where an entry is 0, at either level, nothing is mapped.
+#[tactic(auto, unfolding(ow_base::specs::Sv32::is_valid))]
 pub const fn nothing_is_mapped()
     ensures last { (words : WordMap) (access : Access) (address : ℕ)
         → by_last words access address (Some 0) ≡ Err cause.Page }

@@ -10,6 +10,7 @@ use ow_base::{Access, PageCause, Phys, WordSource};
 ///
 /// `Err(Page)` where an entry does not count, leads no further, does not give the access or is a superpage that
 /// is not aligned; `Err(Access)` where a table or the place lies in a frame that is not there.
+#[tactic(auto, unfolding(ow_base::specs::Sv32::translated))]
 pub fn walk<W: WordSource>(
     source: &W,
     satp: u32,
@@ -61,6 +62,7 @@ fn first_level<W: WordSource>(
     }
 }
 
+#[tactic(auto, unfolding(ow_base::specs::Sv32::by_superpage))]
 fn superpage<W: WordSource>(
     source: &W,
     access: Access,
@@ -91,6 +93,7 @@ fn last_level<W: WordSource>(
 }
 
 // The place in the page that a leaf gives. Whether its frame is there is asked after the right to it.
+#[tactic(auto, unfolding(ow_base::specs::Sv32::by_leaf))]
 fn page<W: WordSource>(
     source: &W,
     access: Access,
