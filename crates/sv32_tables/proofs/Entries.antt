@@ -7,11 +7,11 @@ use Rattle.ow_base.specs.declared.machine.Access.TheVariants.{Fetch, Load, Store
 use Rattle.ow_base.specs.declared.machine.Rights.{Rights}
 use Rattle.ow_base.specs.declared.machine.Rights.TheVariants.{Code, Values}
 use Rattle.ow_base.specs.declared.machine.PageCause.TheVariants as cause
-use Rattle.sv32_tables.specs.Entries.{granted, leaf_bits, leaf_word, pointer_word}
+use Rattle.sv32_tables.specs.Entries.{granted, leaf_word, pointer_word}
 
 pub leaf_read_back : (words : WordMap) (access : Access) (address frame : ℕ) (rights : Rights) → frame < 2 ^ 22 →
     by_last words access address (Some (leaf_word frame rights))
-      ≡ (if granted access rights then place_in words access address frame (words frame (bits address 2 10)) else Err cause.Page)
+    ≡ (if granted access rights then place_in words access address frame (words frame (bits address 2 10)) else Err cause.Page)
 unfolding is_valid is_leaf permits by_leaf
 leaf_read_back words Fetch address frame Code small = grind arith
 leaf_read_back words Fetch address frame Values small = grind arith

@@ -1,12 +1,16 @@
 ghost use Rattle.std.specs.Prelude.{◌≡◌, ◌<◌, ◌^◌};
 ghost use Rattle.ow_base.specs.Sv32.{is_set, frame_named, is_valid, is_leaf, permits, allows};
-ghost use Rattle.sv32_tables.specs.Entries.{place_of, leaf_word, pointer_word};
+ghost use Rattle.sv32_tables.specs.Entries.{leaf_word, pointer_word};
+ghost use Rattle.sv32_tables.specs.Flags.{place_of};
 
 use ow_base::{Access, Rights};
 
-// The bits of an entry that a walk asks for. G and the two bits for software count nowhere.
-#[derive(Clone, Copy, Debug, PartialEq, Eq)]
-pub enum Flag {
+// The frame of an entry stands above its ten lowest bits.
+const FRAME_UNIT: u32 = 1024;
+
+// The flags of an entry that a walk asks for. It asks for no other: G and the two for software count nowhere.
+#[derive(Clone, Copy)]
+enum Flag {
     Valid,
     Read,
     Write,
@@ -17,25 +21,24 @@ pub enum Flag {
 }
 
 impl Flag {
-    // Where the bit stands in an entry.
-    fn place(self) -> u32
-        ensures value { result ≡ place_of self }
-        ensures fits { result < 8 }
+    // The flag alone in an entry.
+    const fn bit(self) -> u32
+        ensures { result ≡ 2 ^ place_of self }
     {
         match self {
-            Flag::Valid => 0,
-            Flag::Read => 1,
-            Flag::Write => 2,
-            Flag::Execute => 3,
-            Flag::User => 4,
-            Flag::Accessed => 6,
-            Flag::Dirty => 7,
+            Flag::Valid => 1,
+            Flag::Read => 2,
+            Flag::Write => 4,
+            Flag::Execute => 8,
+            Flag::User => 16,
+            Flag::Accessed => 64,
+            Flag::Dirty => 128,
         }
     }
 }
 
 /// An entry of a page table.
-#[derive(Clone, Copy, Debug, PartialEq, Eq)]
+#[derive(Clone, Copy)]
 pub struct Entry {
     pub word: u32,
 }
@@ -44,7 +47,7 @@ impl Entry {
     fn has(self, flag: Flag) -> bool
         ensures { result ≡ is_set self.word (place_of flag) }
     {
-        (self.word >> flag.place()) % 2 == 1
+        self.word / flag.bit() % 2 == 1
     }
 
     /// The frame that the entry names: that of a page, or of a further table.
@@ -52,7 +55,7 @@ impl Entry {
         ensures value { result ≡ frame_named self.word }
         ensures fits { result < 2 ^ 22 }
     {
-        self.word / 1024
+        self.word / FRAME_UNIT
     }
 
     /// Whether the entry counts. W without R is reserved, and does not.
@@ -97,11 +100,12 @@ pub const fn leaf(frame: u32, rights: Rights) -> u32
     requires { frame < 2 ^ 22 }
     ensures { result ≡ leaf_word frame rights }
 {
-    let flags = match rights {
-        Rights::Code => 0x5b,
-        Rights::Values => 0xd7,
+    let shared = Flag::Valid.bit() + Flag::Read.bit() + Flag::User.bit() + Flag::Accessed.bit();
+    let own = match rights {
+        Rights::Code => Flag::Execute.bit(),
+        Rights::Values => Flag::Write.bit() + Flag::Dirty.bit(),
     };
-    frame * 1024 + flags
+    frame * FRAME_UNIT + shared + own
 }
 
 /// The entry of the first level that names this frame as a table of the last level.
@@ -109,5 +113,5 @@ pub const fn pointer(frame: u32) -> u32
     requires { frame < 2 ^ 22 }
     ensures { result ≡ pointer_word frame }
 {
-    frame * 1024 + 1
+    frame * FRAME_UNIT + Flag::Valid.bit()
 }

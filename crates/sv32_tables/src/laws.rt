@@ -13,7 +13,7 @@ ghost use Rattle.sv32_tables.specs.Entries.{granted, leaf_word, pointer_word};
 pub const fn leaf_is_read_back()
     ensures { (words : WordMap) (access : Access) (address frame : ℕ) (rights : Rights) → frame < 2 ^ 22
         → by_last words access address (Some (leaf_word frame rights))
-            ≡ (if granted access rights then place_in words access address frame (words frame (bits address 2 10)) else Err cause.Page) }
+        ≡ (if granted access rights then place_in words access address frame (words frame (bits address 2 10)) else Err cause.Page) }
 {}
 
 /// A pointer leads each access on to the table that it was made for.
@@ -21,7 +21,7 @@ pub const fn leaf_is_read_back()
 pub const fn pointer_is_read_back()
     ensures { (words : WordMap) (access : Access) (address frame : ℕ) → frame < 2 ^ 22
         → by_first words access address (Some (pointer_word frame))
-            ≡ by_last words access address (words frame (bits address 12 10)) }
+        ≡ by_last words access address (words frame (bits address 12 10)) }
 {}
 
 /// Where an entry is 0, at either level, nothing is mapped.

@@ -5,6 +5,15 @@ ghost use Rattle.ow_base.specs.Sv32.{translated, by_first, by_superpage, by_last
 use crate::entry::Entry;
 use ow_base::{Access, PageCause, Phys, WordSource};
 
+// The bytes of a page, the entries of a table, the bytes of a superpage, and the frames that can be named.
+const PAGE: u32 = 4096;
+
+const ENTRIES: u32 = 1024;
+
+const SUPERPAGE: u32 = 0x40_0000;
+
+const FRAMES: u32 = 0x40_0000;
+
 /// Where an access of a program to the address `va` leads, by the tables whose root `satp` names. MODE is 1 in
 /// `satp`: Sv32 is on.
 ///
@@ -20,7 +29,7 @@ pub fn walk<W: WordSource>(
     requires mode { bits satp 31 1 ≡ 1 }
     ensures { result ≡ translated (W.words source.now) satp va access }
 {
-    let root = satp % 0x40_0000;
+    let root = satp % FRAMES;
     match source.load(root, first_place(va)) {
         Some(word) => first_level(source, access, va, Entry { word }),
         None => Err(PageCause::Access),
@@ -32,14 +41,14 @@ fn first_place(address: u32) -> u32
     ensures value { result ≡ bits address 22 10 }
     ensures fits { result < 1024 }
 {
-    address / 0x40_0000
+    address / SUPERPAGE
 }
 
 fn last_place(address: u32) -> u32
     ensures value { result ≡ bits address 12 10 }
     ensures fits { result < 1024 }
 {
-    address / 4096 % 1024
+    address / PAGE % ENTRIES
 }
 
 fn first_level<W: WordSource>(
@@ -72,10 +81,16 @@ fn superpage<W: WordSource>(
     ensures { result ≡ by_superpage (W.words source.now) access address entry.word }
 {
     let first_frame = entry.frame();
-    if first_frame % 1024 != 0 {
+    if first_frame % ENTRIES != 0 {
         return Err(PageCause::Page);
     }
-    page(source, access, address, entry, first_frame + last_place(address))
+    page(
+        source,
+        access,
+        address,
+        entry,
+        first_frame + last_place(address),
+    )
 }
 
 fn last_level<W: WordSource>(
@@ -106,7 +121,7 @@ fn page<W: WordSource>(
     if !entry.permits(access) {
         return Err(PageCause::Page);
     }
-    let offset = address % 4096;
+    let offset = address % PAGE;
     match source.load(frame, offset / 4) {
         Some(_) => Ok(Phys { frame, offset }),
         None => Err(PageCause::Access),
