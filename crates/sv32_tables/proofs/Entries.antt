@@ -1,7 +1,7 @@
 -- Where the entries that a kernel makes lead.
-use Rattle.std.proofs.Common.{◌≡◌, ℕ, ◌+◌, ◌*◌, ◌%◌, ◌^◌, ◌<◌, Some, Err, Bool, true, false, ◌==◌, if◌then◌else◌, refl, arith}
+use Rattle.std.proofs.Common.{◌≡◌, ℕ, ◌^◌, ◌<◌, Some, Err, if◌then◌else◌, refl, arith}
 use Rattle.ow_base.specs.Words.{bits}
-use Rattle.ow_base.specs.Sv32.{WordMap, frame_named, is_set, is_valid, is_leaf, permits, place_in, by_leaf, by_last, by_superpage, by_first}
+use Rattle.ow_base.specs.Sv32.{WordMap, is_valid, is_leaf, permits, place_in, by_leaf, by_last, by_first}
 use Rattle.ow_base.specs.declared.machine.Access.{Access}
 use Rattle.ow_base.specs.declared.machine.Access.TheVariants.{Fetch, Load, Store}
 use Rattle.ow_base.specs.declared.machine.Rights.{Rights}

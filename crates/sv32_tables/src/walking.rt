@@ -5,13 +5,16 @@ ghost use Rattle.ow_base.specs.Sv32.{translated, by_first, by_superpage, by_last
 use crate::entry::Entry;
 use ow_base::{Access, PageCause, Phys, WordSource};
 
-// The bytes of a page, the entries of a table, the bytes of a superpage, and the frames that can be named.
+// The bytes of a page.
 const PAGE: u32 = 4096;
 
-const ENTRIES: u32 = 1024;
-
+// The bytes that an entry of the first level speaks of.
 const SUPERPAGE: u32 = 0x40_0000;
 
+// The entries of a table, and so the pages of a superpage.
+const ENTRIES: u32 = 1024;
+
+// The frames that `satp` can name: PPN is its 22 lowest bits.
 const FRAMES: u32 = 0x40_0000;
 
 /// Where an access of a program to the address `va` leads, by the tables whose root `satp` names. MODE is 1 in
