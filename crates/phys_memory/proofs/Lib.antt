@@ -1,0 +1,2 @@
+-- Lemmas of memory.
+pub mod Words
