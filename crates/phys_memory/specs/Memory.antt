@@ -36,10 +36,10 @@ pub record IsSized (user_frames : ℕ) (m : MemoryParts) : Type 0 where
   pub a : length m.a ≡ 1024 * (128 + user_frames)
   pub b : length m.b ≡ 1024 * (128 + user_frames)
 
+-- so many frames with 0 in each word
+unfoldable pub blank_frames : (count : ℕ) → List ℕ
+blank_frames count = replicate (1024 * count) 0
+
 -- memory of this size with 0 in each word
 abbrev pub zeroed : (user_frames : ℕ) → MemoryParts
-zeroed user_frames = record {
-  boot = replicate 1024 0;
-  a = replicate (1024 * (128 + user_frames)) 0;
-  b = replicate (1024 * (128 + user_frames)) 0;
-}
+zeroed user_frames = record { boot = blank_frames 1; a = blank_frames (128 + user_frames); b = blank_frames (128 + user_frames) }

@@ -1,5 +1,6 @@
 //! Frames of words.
-ghost use Rattle.std.specs.Prelude.{◌≡◌, ℕ, ◌+◌, ◌*◌, ◌<◌, ◌≤◌, [], IfOk, length, replicate, slice_index, slice_set};
+ghost use Rattle.std.specs.Prelude.{◌≡◌, ℕ, ◌+◌, ◌*◌, ◌^◌, ◌<◌, ◌≤◌, [], IfOk, length, slice_index, slice_set};
+ghost use Rattle.phys_memory.specs.Memory.{blank_frames};
 
 use std::alloc::{AllocError, Global};
 use std::marker::Model;
@@ -34,9 +35,10 @@ impl Frames {
     }
 
     /// So many frames with 0 in each word.
+    #[tactic(auto, unfolding(crate::specs::Memory::blank_frames))]
     pub(crate) fn zeroed(alloc: Global, count: usize) -> Result<Frames, AllocError>
         requires { count ≤ 1024 }
-        ensures { IfOk result (λ f. f ≡ replicate (1024 * count) 0) }
+        ensures { IfOk result (λ f. f ≡ blank_frames count) }
     {
         let words = vec![in alloc; 0; FRAME_LENGTH * count]?;
         Ok(Frames { words })
@@ -44,7 +46,8 @@ impl Frames {
 
     /// How many frames there are.
     pub fn count(&self) -> usize
-        ensures { length self.now ≡ 1024 * result }
+        ensures count { length self.now ≡ 1024 * result }
+        ensures fits { length self.now < 2 ^ 64 }
     {
         self.words.len() / FRAME_LENGTH
     }
