@@ -1,0 +1,3 @@
+-- Lemmas of memory.
+pub mod Words
+pub mod Beside

@@ -1,0 +1,36 @@
+-- The two halves of memory while one kernel is dead: its half is only read, and the other half is written.
+use Rattle.std.specs.Prelude.{◌≡◌, ℕ, ◌+◌, ◌-◌, ◌*◌, ◌/◌, ◌<◌, ◌≤◌, Bool, nat_lt, not, ◌&&◌, if◌then◌else◌, List, length, slice_index, Option, Some, None}
+use Rattle.ow_base.specs.Sv32.{WordMap}
+use Rattle.ow_base.specs.declared.machine.AreaId.{AreaId}
+use Rattle.ow_base.specs.declared.machine.AreaId.TheVariants.{A, B}
+use Rattle.phys_memory.specs.Memory.{MemoryParts, words_of}
+
+-- the words of the half that is dead, and of the other one
+abbrev pub dead_half : MemoryParts → (dead : AreaId) → List ℕ
+dead_half m A = m.a
+dead_half m B = m.b
+
+abbrev pub own_half : MemoryParts → (dead : AreaId) → List ℕ
+own_half m A = m.b
+own_half m B = m.a
+
+-- the number of the first frame of the other half
+abbrev pub first_own : MemoryParts → (dead : AreaId) → ℕ
+first_own m A = length m.boot / 1024 + length m.a / 1024
+first_own m B = length m.boot / 1024
+
+-- whether a frame is among those that lie one behind the other from a first one on
+abbrev pub is_among : (first : ℕ) → (words : List ℕ) → (frame : ℕ) → Bool
+is_among first words frame = not (nat_lt frame first) && nat_lt frame (first + length words / 1024)
+
+abbrev pub is_own : MemoryParts → (dead : AreaId) → (frame : ℕ) → Bool
+is_own m dead frame = is_among (first_own m dead) (own_half m dead) frame
+
+-- the words that are read while the other half is lent: all but those of that half
+unfoldable pub words_beside : MemoryParts → (dead : AreaId) → WordMap
+words_beside m dead frame word = if is_own m dead frame then None else words_of m frame word
+
+-- memory with other words in the half that is not dead
+abbrev pub with_own : MemoryParts → (dead : AreaId) → (words : List ℕ) → MemoryParts
+with_own m A words = record m { b = words }
+with_own m B words = record m { a = words }

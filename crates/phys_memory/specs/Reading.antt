@@ -1,0 +1,18 @@
+-- The words that are read beside a half that is lent.
+use Rattle.std.specs.Prelude.{◌≡◌, ℕ, ◌+◌, ◌-◌, ◌*◌, ◌/◌, Bool, nat_lt, ◌&&◌, if◌then◌else◌, List, length, slice_index, Option, Some, None}
+use Rattle.ow_base.specs.Sv32.{WordMap}
+use Rattle.phys_memory.specs.Halves.{is_among}
+use Rattle.phys_memory.specs.declared.lent.DeadWords.{DeadWords}
+
+-- the words of frames that lie one behind the other, the first of which has this number
+abbrev pub words_from : (first : ℕ) → (words : List ℕ) → WordMap
+words_from first words frame word =
+    if nat_lt word 1024 && is_among first words frame then Some (slice_index words (1024 * (frame - first) + word)) else None
+
+abbrev pub or_else : Option ℕ → Option ℕ → Option ℕ
+or_else (Some word) other = Some word
+or_else None other = other
+
+-- the words of the boot frame and of the half that is read
+unfoldable pub words_read : DeadWords → WordMap
+words_read d frame word = or_else (words_from 0 d.boot.now frame word) (words_from d.first d.half.now frame word)

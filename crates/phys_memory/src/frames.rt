@@ -1,0 +1,72 @@
+//! Frames of words.
+ghost use Rattle.std.specs.Prelude.{◌≡◌, ℕ, ◌+◌, ◌*◌, ◌^◌, ◌<◌, ◌≤◌, [], IfOk, length, slice_index, slice_set};
+ghost use Rattle.phys_memory.specs.Memory.{blank_frames};
+
+use std::alloc::{AllocError, Global};
+use std::marker::Model;
+
+/// The words of a frame.
+const FRAME_LENGTH: usize = 1024;
+
+/// Frames of 1,024 words that lie one behind the other. Contracts see the list of their words.
+#[derive(Drop)]
+pub struct Frames {
+    words: Vec<u32>,
+}
+
+impl Model for Frames {
+    ghost use Rattle.std.specs.Prelude.{◌≡◌, ◌%◌, ℕ, List, length};
+
+    ghost Value = { List ℕ };
+
+    ghost view = { λ f. f.words.items };
+
+    ghost invariant = { λ f. length f.words.items % 1024 ≡ 0 };
+}
+
+impl Frames {
+    /// No frame; it takes no memory.
+    pub(crate) fn none(alloc: Global) -> Frames
+        ensures { result ≡ [] }
+    {
+        Frames {
+            words: Vec::new(alloc),
+        }
+    }
+
+    /// So many frames with 0 in each word.
+    #[tactic(auto, unfolding(crate::specs::Memory::blank_frames))]
+    pub(crate) fn zeroed(alloc: Global, count: usize) -> Result<Frames, AllocError>
+        requires { count ≤ 1024 }
+        ensures { IfOk result (λ f. f ≡ blank_frames count) }
+    {
+        let words = vec![in alloc; 0; FRAME_LENGTH * count]?;
+        Ok(Frames { words })
+    }
+
+    /// How many frames there are.
+    pub fn count(&self) -> usize
+        ensures count { length self.now ≡ 1024 * result }
+        ensures fits { length self.now < 2 ^ 64 }
+    {
+        self.words.len() / FRAME_LENGTH
+    }
+
+    /// The word of a frame, counted from the first of these, at a place below 1,024.
+    pub(crate) fn word(&self, frame: usize, word: u32) -> u32
+        requires frame { 1024 * frame < length self.now }
+        requires word { word < 1024 }
+        ensures { result ≡ slice_index self.now (1024 * frame + word) }
+    {
+        self.words[FRAME_LENGTH * frame + word as usize]
+    }
+
+    /// Writes the word of a frame, counted from the first of these, at a place below 1,024.
+    pub(crate) fn set_word(&mut self, frame: usize, word: u32, value: u32)
+        requires frame { 1024 * frame < length self.old }
+        requires word { word < 1024 }
+        ensures { self.new ≡ slice_set self.old (1024 * frame + word) value }
+    {
+        self.words[FRAME_LENGTH * frame + word as usize] = value;
+    }
+}

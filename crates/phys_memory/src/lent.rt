@@ -1,0 +1,84 @@
+//! The two halves of memory while one of them is lent for writing.
+ghost use Rattle.std.specs.Prelude.{◌≡◌, ℕ, ◌+◌, ◌-◌, ◌*◌, ◌<◌, true, slice_index, slice_set};
+ghost use Rattle.phys_memory.specs.Halves.{is_among};
+ghost use Rattle.phys_memory.specs.Reading.{words_read};
+
+use crate::frames::Frames;
+use ow_base::WordSource;
+
+/// What is only read while the other half is written: the boot frame, and the half of a kernel that is dead.
+///
+/// Frames have their numbers in memory; the frames of the other half are not there.
+#[derive(Drop)]
+pub struct DeadWords<'a> {
+    boot: &'a Frames,
+    half: &'a Frames,
+    first: usize,
+}
+
+impl<'a> DeadWords<'a> {
+    /// The boot frame, and a half whose first frame has this number.
+    pub(crate) fn new(boot: &'a Frames, half: &'a Frames, first: usize) -> DeadWords<'a>
+        ensures boot { result.boot.now ≡ boot.now }
+        ensures half { result.half.now ≡ half.now }
+        ensures first { result.first ≡ first }
+    {
+        DeadWords { boot, half, first }
+    }
+}
+
+impl WordSource for DeadWords<'_> {
+    ghost words = { words_read };
+
+    #[tactic(auto, unfolding(crate::specs::Reading::words_read))]
+    fn load(&self, frame: u32, word: u32) -> Option<u32> {
+        let frame = frame as usize;
+        if frame < self.boot.count() {
+            return Some(self.boot.word(frame, word));
+        }
+        if frame < self.first {
+            return None;
+        }
+        let frame = frame - self.first;
+        if frame < self.half.count() {
+            Some(self.half.word(frame, word))
+        } else {
+            None
+        }
+    }
+}
+
+/// The half that is written, whose first frame has the number `first` in memory.
+///
+/// A caller that wants to know what memory is after the loan takes the value apart once, and builds it again of
+/// the same two fields.
+#[derive(Drop)]
+pub struct OwnWords<'a> {
+    pub words: &'a mut Frames,
+    pub first: usize,
+}
+
+impl OwnWords<'_> {
+    /// The word of a frame of this half, by the frame's number in memory, at a place below 1,024.
+    pub fn load(&self, frame: u32, word: u32) -> u32
+        requires word { word < 1024 }
+        requires frame { is_among self.now.first self.now.words.now frame ≡ true }
+        ensures { result ≡ slice_index self.now.words.now (1024 * (frame - self.now.first) + word) }
+    {
+        let _count = self.words.count();
+        self.words.word(frame as usize - self.first, word)
+    }
+
+    /// Writes the word of a frame of this half, by the frame's number in memory, at a place below 1,024. No other
+    /// word changes.
+    pub fn store(&mut self, frame: u32, word: u32, value: u32)
+        requires word { word < 1024 }
+        requires frame { is_among self.old.first self.old.words.now frame ≡ true }
+        ensures words { self.new.words.now ≡ slice_set self.old.words.now (1024 * (frame - self.old.first) + word) value }
+        ensures first { self.new.first ≡ self.old.first }
+        ensures place { self.new.words.ghost_name ≡ self.old.words.ghost_name }
+    {
+        let _count = self.words.count();
+        self.words.set_word(frame as usize - self.first, word, value);
+    }
+}

@@ -1,0 +1,156 @@
+//! Memory as a whole.
+ghost use Rattle.std.specs.Prelude.{◌≡◌, ℕ, ◌<◌, ◌≤◌, [], IfOk};
+ghost use Rattle.std.specs.Borrow.{sem};
+ghost use Rattle.phys_memory.specs.Memory.{frame_count, words_of, with_word, zeroed};
+ghost use Rattle.phys_memory.specs.Halves.{first_own, own_half, words_beside};
+ghost use Rattle.phys_memory.specs.Lending.{LendsOwn};
+ghost use Rattle.phys_memory.specs.Reading.{words_read};
+
+use crate::frames::Frames;
+use crate::lent::{DeadWords, OwnWords};
+use ow_base::{AreaId, WordSource};
+use std::alloc::{AllocError, Global};
+use std::marker::Model;
+
+/// The frames of a half before its user frames: 64 of the area and 64 of the cache.
+const KERNEL_FRAMES: usize = 128;
+
+/// The memory of a machine: the boot frame and the two halves, in one numbering of frames.
+#[derive(Drop)]
+pub struct Memory {
+    boot: Frames,
+    a: Frames,
+    b: Frames,
+}
+
+impl Model for Memory {
+    ghost use Rattle.phys_memory.specs.Memory.{MemoryParts};
+
+    ghost Value = { MemoryParts };
+
+    ghost view = { λ m. record { boot = m.boot; a = m.a; b = m.b } };
+}
+
+impl Memory {
+    /// Memory that has no frame. It takes nothing from the allocator.
+    pub fn without_frames(alloc: Global) -> Memory
+        ensures { result ≡ record { boot = []; a = []; b = [] } }
+    {
+        Memory {
+            boot: Frames::none(alloc),
+            a: Frames::none(alloc),
+            b: Frames::none(alloc),
+        }
+    }
+
+    /// Memory with at most 384 user frames in each half, and 0 in each word. `AllocError` comes only for want of
+    /// memory.
+    pub fn new(alloc: Global, user_frames: u32) -> Result<Memory, AllocError>
+        requires { user_frames ≤ 384 }
+        ensures { IfOk result (λ m. m ≡ zeroed user_frames) }
+    {
+        let half = KERNEL_FRAMES + user_frames as usize;
+        let boot = Frames::zeroed(alloc, 1)?;
+        let a = Frames::zeroed(alloc, half)?;
+        let b = Frames::zeroed(alloc, half)?;
+        Ok(Memory { boot, a, b })
+    }
+
+    /// Writes the word of a frame that is there, at a place below 1,024. No other word changes.
+    #[tactic(auto, unfolding(crate::specs::Memory::with_word))]
+    pub fn store(&mut self, frame: u32, word: u32, value: u32)
+        requires word { word < 1024 }
+        requires frame { frame < frame_count self.old }
+        ensures { self.new ≡ with_word self.old frame word value }
+    {
+        let frame = frame as usize;
+        let boot = self.boot.count();
+        if frame < boot {
+            self.boot.set_word(frame, word, value);
+            return;
+        }
+        let frame = frame - boot;
+        let a = self.a.count();
+        if frame < a {
+            self.a.set_word(frame, word, value);
+        } else {
+            let _b = self.b.count();
+            self.b.set_word(frame - a, word, value);
+        }
+    }
+
+    /// Lends the half that is not `dead` for writing, and all the rest for reading, both at once.
+    ///
+    /// When the loans are over, memory is as it was, with that half as it was left.
+    pub fn split(&mut self, dead: AreaId) -> (DeadWords<'_>, OwnWords<'_>)
+        ensures* lends { sem 𝓛 (LendsOwn self.entry dead result.1) }
+        ensures dead_words { words_read result.0 ≡ words_beside self.old dead }
+        ensures own_words { result.1.words.now ≡ own_half self.old dead }
+        ensures own_frames { result.1.first ≡ first_own self.old dead }
+    {
+        match dead {
+            AreaId::A => self.lend_b(),
+            AreaId::B => self.lend_a(),
+        }
+    }
+
+    /// Lends half B for writing, and the rest for reading.
+    fn lend_b(&mut self) -> (DeadWords<'_>, OwnWords<'_>)
+        ensures* lends { sem 𝓛 (LendsOwn self.entry AreaId.A result.1) }
+        ensures dead_words { words_read result.0 ≡ words_beside self.old AreaId.A }
+        ensures own_words { result.1.words.now ≡ own_half self.old AreaId.A }
+        ensures own_frames { result.1.first ≡ first_own self.old AreaId.A }
+    {
+        let boot = self.boot.count();
+        let first = boot + self.a.count();
+        (
+            DeadWords::new(&self.boot, &self.a, boot),
+            OwnWords {
+                words: &mut self.b,
+                first,
+            },
+        )
+    }
+
+    /// Lends half A for writing, and the rest for reading.
+    fn lend_a(&mut self) -> (DeadWords<'_>, OwnWords<'_>)
+        ensures* lends { sem 𝓛 (LendsOwn self.entry AreaId.B result.1) }
+        ensures dead_words { words_read result.0 ≡ words_beside self.old AreaId.B }
+        ensures own_words { result.1.words.now ≡ own_half self.old AreaId.B }
+        ensures own_frames { result.1.first ≡ first_own self.old AreaId.B }
+    {
+        let first = self.boot.count();
+        let behind = first + self.a.count();
+        (
+            DeadWords::new(&self.boot, &self.b, behind),
+            OwnWords {
+                words: &mut self.a,
+                first,
+            },
+        )
+    }
+}
+
+impl WordSource for Memory {
+    ghost words = { words_of };
+
+    #[tactic(auto, unfolding(crate::specs::Memory::words_of))]
+    fn load(&self, frame: u32, word: u32) -> Option<u32> {
+        let frame = frame as usize;
+        let boot = self.boot.count();
+        if frame < boot {
+            return Some(self.boot.word(frame, word));
+        }
+        let frame = frame - boot;
+        let a = self.a.count();
+        if frame < a {
+            return Some(self.a.word(frame, word));
+        }
+        let frame = frame - a;
+        if frame < self.b.count() {
+            Some(self.b.word(frame, word))
+        } else {
+            None
+        }
+    }
+}
