@@ -1,4 +1,4 @@
-ghost use Rattle.std.specs.Prelude.{◌≡◌, ◌<◌, ◌^◌};
+ghost use Rattle.std.specs.Prelude.{◌≡◌, ◌<◌, ◌^◌, ◌%◌, ◌/◌, true, IfOk, is_some};
 ghost use Rattle.ow_base.specs.Words.{bits};
 ghost use Rattle.ow_base.specs.Sv32.{translated, by_first, by_superpage, by_last, by_leaf};
 
@@ -20,7 +20,7 @@ const FRAMES: u32 = 0x40_0000;
 /// Where an access of a program to the address `va` leads, by the tables whose root `satp` names. MODE is 1 in
 /// `satp`: Sv32 is on.
 ///
-/// `Err(Page)` where an entry does not count, leads no further, does not give the access or is a superpage that
+/// A place has the address's offset in its page, and its word is there. `Err(Page)` where an entry does not count, leads no further, does not give the access or is a superpage that
 /// is not aligned; `Err(Access)` where a table or the place lies in a frame that is not there.
 #[tactic(auto, unfolding(ow_base::specs::Sv32::translated))]
 pub fn walk<W: WordSource>(
@@ -30,7 +30,9 @@ pub fn walk<W: WordSource>(
     access: Access,
 ) -> Result<Phys, PageCause>
     requires mode { bits satp 31 1 ≡ 1 }
-    ensures { result ≡ translated (W.words source.now) satp va access }
+    ensures answer { result ≡ translated (W.words source.now) satp va access }
+    ensures offset { IfOk result (λ place. place.offset ≡ va % 4096) }
+    ensures there { IfOk result (λ place. is_some (W.words source.now place.frame (place.offset / 4)) ≡ true) }
 {
     let root = satp % FRAMES;
     match source.load(root, first_place(va)) {
@@ -60,7 +62,9 @@ fn first_level<W: WordSource>(
     address: u32,
     entry: Entry,
 ) -> Result<Phys, PageCause>
-    ensures { result ≡ by_first (W.words source.now) access address (Some entry.word) }
+    ensures answer { result ≡ by_first (W.words source.now) access address (Some entry.word) }
+    ensures offset { IfOk result (λ place. place.offset ≡ address % 4096) }
+    ensures there { IfOk result (λ place. is_some (W.words source.now place.frame (place.offset / 4)) ≡ true) }
 {
     if !entry.is_valid() {
         return Err(PageCause::Page);
@@ -81,7 +85,9 @@ fn superpage<W: WordSource>(
     address: u32,
     entry: Entry,
 ) -> Result<Phys, PageCause>
-    ensures { result ≡ by_superpage (W.words source.now) access address entry.word }
+    ensures answer { result ≡ by_superpage (W.words source.now) access address entry.word }
+    ensures offset { IfOk result (λ place. place.offset ≡ address % 4096) }
+    ensures there { IfOk result (λ place. is_some (W.words source.now place.frame (place.offset / 4)) ≡ true) }
 {
     let first_frame = entry.frame();
     if first_frame % ENTRIES != 0 {
@@ -102,7 +108,9 @@ fn last_level<W: WordSource>(
     address: u32,
     entry: Entry,
 ) -> Result<Phys, PageCause>
-    ensures { result ≡ by_last (W.words source.now) access address (Some entry.word) }
+    ensures answer { result ≡ by_last (W.words source.now) access address (Some entry.word) }
+    ensures offset { IfOk result (λ place. place.offset ≡ address % 4096) }
+    ensures there { IfOk result (λ place. is_some (W.words source.now place.frame (place.offset / 4)) ≡ true) }
 {
     if !entry.is_valid() || !entry.is_leaf() {
         return Err(PageCause::Page);
@@ -119,7 +127,9 @@ fn page<W: WordSource>(
     entry: Entry,
     frame: u32,
 ) -> Result<Phys, PageCause>
-    ensures { result ≡ by_leaf (W.words source.now) access address entry.word frame }
+    ensures answer { result ≡ by_leaf (W.words source.now) access address entry.word frame }
+    ensures offset { IfOk result (λ place. place.offset ≡ address % 4096) }
+    ensures there { IfOk result (λ place. is_some (W.words source.now place.frame (place.offset / 4)) ≡ true) }
 {
     if !entry.permits(access) {
         return Err(PageCause::Page);
