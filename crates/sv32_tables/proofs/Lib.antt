@@ -1,0 +1,3 @@
+-- Lemmas about page tables that crates above cite.
+pub mod Entries
+pub mod Spaces

@@ -1,0 +1,3 @@
+-- The definitions that contracts cite: entries of page tables, and programs whose tables map distinct frames.
+pub mod Entries
+pub mod Spaces
