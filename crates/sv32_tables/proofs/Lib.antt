@@ -1,3 +1,4 @@
 -- Lemmas about page tables that crates above cite.
 pub mod Entries
+pub mod Bytes
 pub mod Spaces
