@@ -1,17 +1,55 @@
 -- A program whose page tables map each page to a frame of its own steps as on its pages.
-use Rattle.std.proofs.Common.{◌≡◌, ◌≢◌, ℕ, ◌+◌, ◌-◌, ◌*◌, ◌/◌, ◌%◌, ◌^◌, ◌<◌, ◌≤◌, ◌==◌, ◌&&◌, Bool, true, false, List, Option, Some, None, Result, Ok, Err, refl, sym, ap, ◌∙◌, inl, inr, if◌then◌else◌, arith}
+use Rattle.std.proofs.Common.{◌≡◌, ◌≢◌, ℕ, ◌+◌, ◌-◌, ◌*◌, ◌/◌, ◌%◌, ◌^◌, ◌<◌, ◌≤◌, ◌==◌, ◌&&◌, ◌⊎◌, nat_lt, Bool, true, false, List, Option, Some, None, Result, Ok, Err, refl, sym, ap, ◌∙◌, inl, inr, if◌then◌else◌, arith}
 use Rattle.std.proofs.Math.Path.{fun_ext}
 use Rattle.std.proofs.lemmas.Bool.{cases_eq, cases_lt}
 use Rattle.std.proofs.lemmas.Bool.Decides.{nat_tests}
-use Rattle.ow_base.specs.Pages.{Pages, page_space}
-use Rattle.ow_base.specs.Sv32.{WordMap, by_last, by_first, translated, pages_by, sv32_space}
+use Rattle.ow_base.specs.Pages.{Pages, page_space, fetched_from}
+use Rattle.ow_base.specs.Sv32.{WordMap, by_last, by_first, translated, rights_by, byte_by, pages_by, read_at, sv32_space}
 use Rattle.ow_base.specs.Words.{bits}
 use Rattle.ow_base.specs.UserStep.{user_step}
 use Rattle.ow_base.specs.declared.machine.Access.{Access}
+use Rattle.ow_base.specs.declared.machine.Access.TheVariants.{Fetch, Load, Store}
+use Rattle.ow_base.specs.declared.machine.Width.{Width}
+use Rattle.ow_base.specs.declared.machine.Width.TheVariants.{Byte, Half, Word}
+use Rattle.ow_base.specs.declared.machine.Rights.{Rights}
+use Rattle.ow_base.specs.declared.machine.Rights.TheVariants.{Code, Values}
 use Rattle.ow_base.proofs.Simulations.{Alike, Follows, follows}
 use Rattle.sv32_tables.specs.Entries.{leaf_word, pointer_word, granted}
 use Rattle.sv32_tables.proofs.Entries.{leaf_read_back, pointer_read_back, none_mapped}
-use Rattle.sv32_tables.specs.Spaces.{Mapping, entry_of, mapped, pages_in, satp_of, IsMapped}
+use Rattle.sv32_tables.specs.Spaces.{Mapping, entry_of, mapped, rights_in, byte_in, pages_in, satp_of, IsMapped}
+
+pages_ext : (p q : Pages) → ((page : ℕ) → p.rights page ≡ q.rights page) → ((a : ℕ) → p.bytes a ≡ q.bytes a) → p ≡ q
+pages_ext p q rights bytes =
+    let with_rights : (ℕ → Option Rights) → Pages = λ r. record { rights = r; bytes = p.bytes } in
+    let with_bytes : (ℕ → ℕ) → Pages = λ b. record { rights = q.rights; bytes = b } in
+    ap with_rights (fun_ext rights) ∙ ap with_bytes (fun_ext bytes)
+
+-- a choice is the same whichever way it goes
+both : {X : Type 0} (test : Bool) (x y z : X) → (test ≡ true → x ≡ z) → (test ≡ false → y ≡ z) → (if test then x else y) ≡ z
+both true x y z p q = p refl
+both false x y z p q = q refl
+
+-- the rights to a page as loads and stores to it tell them
+rights_told : (o : Option Mapping) (a : ℕ) → rights_by (mapped o a Load) (mapped o a Store) ≡ rights_in o
+rights_told None a = refl
+rights_told (Some m) a = by_rights m.frame m.rights
+  where
+    by_rights : (frame : ℕ) (rights : Rights) → rights_by (mapped (Some (record { frame = frame; rights = rights })) a Load) (mapped (Some (record { frame = frame; rights = rights })) a Store) ≡ Some rights
+    by_rights frame Code = refl
+    by_rights frame Values = refl
+
+byte_told : (words : WordMap) (o : Option Mapping) (a : ℕ) → byte_by words (mapped o a Load) ≡ byte_in words (a % 4096) o
+byte_told words None a = refl
+byte_told words (Some m) a = refl
+
+-- a place that is not the one that is set
+elsewhere : (f w frame place : ℕ) (new old : Option ℕ) → (f ≢ frame) ⊎ (w ≢ place) → (if (f == frame) && (w == place) then new else old) ≡ old
+elsewhere f w frame place new old apart = grind (arith, nat_tests)
+
+-- where there was a word there is one after a word is set
+still_there : (test : Bool) (value : ℕ) (was : Option ℕ) → (word : ℕ) × (was ≡ Some word) → (word : ℕ) × ((if test then Some value else was) ≡ Some word)
+still_there true value was there = (value, refl)
+still_there false value was there = there
 
 module _ {words : WordMap} {root : ℕ} {map : ℕ → Option Mapping} (is : IsMapped words root map) where
   -- what an entry of the last level gives is what the map says of its page
@@ -68,15 +106,56 @@ module _ {words : WordMap} {root : ℕ} {map : ℕ → Option Mapping} (is : IsM
       let at : bits (2 ^ 31 + root) 0 22 ≡ root = omega arith in
       rw at (by_root address (bits address 22 10) access fits (omega arith))
 
+  rights_same : (page : ℕ) → (pages_by words (satp_of root)).rights page ≡ rights_in (map page)
+  unfolding pages_by
+  rights_same page =
+      both (nat_lt page (2 ^ 20)) _ _ _
+      (λ in_reach.
+        let small : 4096 * page < 2 ^ 32 = grind (arith, nat_tests) in
+        let number : 4096 * page / 4096 ≡ page = omega arith in
+        rw (translated-mapped (4096 * page) Load small, translated-mapped (4096 * page) Store small, number) (rights_told (map page) (4096 * page)))
+      (λ out. let high : 524288 ≤ page = grind (arith, nat_tests) in sym (ap rights_in (is.behind page high)))
+
+  bytes_same : (a : ℕ) → (pages_by words (satp_of root)).bytes a ≡ byte_in words (a % 4096) (map (a / 4096))
+  unfolding pages_by
+  bytes_same a =
+      both (nat_lt a (2 ^ 32)) _ _ _
+      (λ in_reach.
+        let small : a < 2 ^ 32 = grind (arith, nat_tests) in
+        rw (translated-mapped a Load small) (byte_told words (map (a / 4096)) a))
+      (λ out.
+        let high : 2 ^ 32 ≤ a = grind (arith, nat_tests) in
+        sym (ap (byte_in words (a % 4096)) (is.behind (a / 4096) (omega arith))))
+
   -- the pages that a program has by its tables are those of the map
   pub pages_by-mapped : pages_by words (satp_of root) ≡ pages_in map words
-  pages_by-mapped = ?
+  unfolding pages_by
+  pages_by-mapped = pages_ext _ _ rights_same bytes_same
 
--- a word that is set in the frame of a page leaves the tables as they are
-pub IsMapped-set : (words changed : WordMap) (root : ℕ) (map : ℕ → Option Mapping) (page : ℕ) (m : Mapping) (place value : ℕ)
-    → IsMapped words root map → map page ≡ Some m → place < 1024
-    → ((f w : ℕ) → changed f w ≡ (if (f == m.frame) && (w == place) then Some value else words f w)) → IsMapped changed root map
-IsMapped-set words changed root map page m place value is e fits set = ?
+  -- a word that is set in the frame of a page leaves the tables as they are
+  pub IsMapped-set : (changed : WordMap) (page : ℕ) (m : Mapping) (place value : ℕ) → map page ≡ Some m
+      → ((f w : ℕ) → changed f w ≡ (if (f == m.frame) && (w == place) then Some value else words f w)) → IsMapped changed root map
+  IsMapped-set changed page m place value e set =
+      let no_table = is.no_table page m e in
+      let kept : (f w : ℕ) → f ≢ m.frame → changed f w ≡ words f w = λ f w apart. set f w ∙ elsewhere f w m.frame place (Some value) (words f w) (inl apart) in
+      record {
+        low = is.low;
+        high = is.high;
+        root_words = λ i fits. kept root i (λ q. no_table.0 (sym q)) ∙ is.root_words i fits;
+        low_words = λ i fits. kept is.low i (λ q. no_table.1 (sym q)) ∙ is.low_words i fits;
+        high_words = λ i fits. kept is.high i (λ q. no_table.2 (sym q)) ∙ is.high_words i fits;
+        between = is.between;
+        behind = is.behind;
+        root_fits = is.root_fits;
+        low_fits = is.low_fits;
+        high_fits = is.high_fits;
+        frame_fits = is.frame_fits;
+        whole = λ other n p i fits.
+            let there = still_there ((n.frame == m.frame) && (i == place)) value (words n.frame i) (is.whole other n p i fits) in
+            (there.0, set n.frame i ∙ there.1);
+        no_table = is.no_table;
+        apart = is.apart;
+      }
 
 module _ {Image : Type 0} (words : Image → WordMap) (satp : Image → ℕ) (with_word : Image → (frame place value : ℕ) → Image) (Fits : Image → Type 0) where
   -- an image whose tables map pages to frames of their own, and the pages that a program has by them
@@ -93,11 +172,23 @@ module _ {Image : Type 0} (words : Image → WordMap) (satp : Image → ℕ) (wi
     pub kept : (image : Image) (frame place value : ℕ) → Fits image → Fits (with_word image frame place value)
     pub same_satp : (image : Image) (frame place value : ℕ) → satp (with_word image frame place value) ≡ satp image
 
-  module _ (root : ℕ) (map : ℕ → Option Mapping) where
+  module _ {root : ℕ} {map : ℕ → Option Mapping} where
+    fetched_alike : (image : Image) (pages : Pages) (address : ℕ) (o : Option Mapping) → IsSpaceOf root map image pages → address % 4 ≡ 0 → map (address / 4096) ≡ o
+        → read_at (words image) Fetch Word address (mapped o address Fetch) ≡ fetched_from pages.bytes address (rights_in o)
+    fetched_alike image pages address o is aligned e = ?
+
     pub space_follows : SetsWords → Alike (IsSpaceOf root map) (sv32_space words satp with_word) page_space
     space_follows sets = ?
 
+    -- so a step of the program on its page tables is a step on its pages, and the tables stay as they are
     pub steps_follow : SetsWords → (image : Image) (regs : List ℕ) (pc : ℕ) → Fits image → IsMapped (words image) root map → satp image ≡ satp_of root → pc < 2 ^ 32
         → Follows (IsSpaceOf root map) (sv32_space words satp with_word) page_space
           (user_step (sv32_space words satp with_word) regs pc image) (user_step page_space regs pc (pages_by (words image) (satp image)))
-    steps_follow sets image regs pc fits tables on small = ?
+    steps_follow sets image regs pc fits tables on small =
+        let is : IsSpaceOf root map image (pages_by (words image) (satp image)) = record {
+          fits = fits;
+          tables = tables;
+          on = on;
+          holds = ap (pages_by (words image)) on ∙ pages_by-mapped tables;
+        } in
+        follows (IsSpaceOf root map) (sv32_space words satp with_word) page_space (space_follows sets) image (pages_by (words image) (satp image)) regs pc is small
