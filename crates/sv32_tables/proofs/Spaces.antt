@@ -3,18 +3,19 @@ use Rattle.std.proofs.Common.{◌≡◌, ◌≢◌, ℕ, ◌+◌, ◌-◌, ◌*�
 use Rattle.std.proofs.Math.Path.{fun_ext}
 use Rattle.std.proofs.lemmas.Bool.{cases_eq, cases_lt}
 use Rattle.std.proofs.lemmas.Bool.Decides.{nat_tests}
-use Rattle.ow_base.specs.Pages.{Pages, page_space, fetched_from}
-use Rattle.ow_base.specs.Sv32.{WordMap, by_last, by_first, translated, rights_by, byte_by, pages_by, read_at, sv32_space}
+use Rattle.ow_base.specs.Pages.{Pages, page_space, value_at, with_value, fetched_from, loaded_from, stored_in}
+use Rattle.ow_base.specs.Sv32.{WordMap, by_last, by_first, translated, rights_by, byte_by, pages_by, byte_of, word_or_zero, overwritten, value_of, read_at, written_at, sv32_space}
 use Rattle.ow_base.specs.Words.{bits}
-use Rattle.ow_base.specs.UserStep.{user_step}
+use Rattle.ow_base.specs.UserStep.{user_step, size_of}
 use Rattle.ow_base.specs.declared.machine.Access.{Access}
 use Rattle.ow_base.specs.declared.machine.Access.TheVariants.{Fetch, Load, Store}
 use Rattle.ow_base.specs.declared.machine.Width.{Width}
 use Rattle.ow_base.specs.declared.machine.Width.TheVariants.{Byte, Half, Word}
 use Rattle.ow_base.specs.declared.machine.Rights.{Rights}
 use Rattle.ow_base.specs.declared.machine.Rights.TheVariants.{Code, Values}
-use Rattle.ow_base.proofs.Simulations.{Alike, Follows, follows}
+use Rattle.ow_base.proofs.Simulations.{FollowsStore, Alike, Follows, follows}
 use Rattle.sv32_tables.specs.Entries.{leaf_word, pointer_word, granted}
+use Rattle.sv32_tables.proofs.Bytes.{byte_of-overwritten, value_of-bytes, shifted, outside}
 use Rattle.sv32_tables.proofs.Entries.{leaf_read_back, pointer_read_back, none_mapped}
 use Rattle.sv32_tables.specs.Spaces.{Mapping, entry_of, mapped, rights_in, byte_in, pages_in, satp_of, IsMapped}
 
@@ -157,6 +158,80 @@ module _ {words : WordMap} {root : ℕ} {map : ℕ → Option Mapping} (is : IsM
         apart = is.apart;
       }
 
+-- the place of an aligned value in its word
+in_word : (a : ℕ) (width : Width) → a % size_of width ≡ 0 → a % 4096 % 4 % size_of width ≡ 0
+in_word a Byte aligned = omega arith
+in_word a Half aligned = omega arith
+in_word a Word aligned = omega arith
+
+-- a byte of the page is one of its word
+byte_of_page : (words : WordMap) (map : ℕ → Option Mapping) (m : Mapping) (a b : ℕ) → map (a / 4096) ≡ Some m → b / 4 ≡ a / 4
+    → byte_in words (b % 4096) (map (b / 4096)) ≡ byte_of (word_or_zero (words m.frame (a % 4096 / 4))) (b % 4)
+byte_of_page words map m a b e near =
+    let page : b / 4096 ≡ a / 4096 = omega arith in
+    let place : b % 4096 / 4 ≡ a % 4096 / 4 = omega arith in
+    let byte : b % 4096 % 4 ≡ b % 4 = omega arith in
+    rw (page, e, place, byte) refl
+
+module _ (words : WordMap) (map : ℕ → Option Mapping) where
+  value_read : (m : Mapping) (a : ℕ) (width : Width) → map (a / 4096) ≡ Some m → a % size_of width ≡ 0
+      → value_of (word_or_zero (words m.frame (a % 4096 / 4))) (a % 4096 % 4) width ≡ value_at (pages_in map words).bytes a width
+  value_read m a width e aligned =
+      let word : ℕ = word_or_zero (words m.frame (a % 4096 / 4)) in
+      sym (value_of-bytes (pages_in map words).bytes word a (a % 4096 % 4) width (omega arith) (in_word a width aligned)
+        (λ b j near fits. byte_of_page words map m a b e (omega arith) ∙ ap (byte_of word) (omega arith)))
+
+  fetched_by : (m : Mapping) (a : ℕ) (rights : Rights) → m.rights ≡ rights → map (a / 4096) ≡ Some m → a % 4 ≡ 0
+      → read_at words Fetch Word a (mapped (Some m) a Fetch) ≡ fetched_from (pages_in map words).bytes a (Some m.rights)
+  fetched_by m a Code r e aligned = rw r (ap Ok (value_read m a Word e aligned))
+  fetched_by m a Values r e aligned = rw r refl
+
+  fetched_alike : (a : ℕ) (o : Option Mapping) → map (a / 4096) ≡ o → a % 4 ≡ 0
+      → read_at words Fetch Word a (mapped o a Fetch) ≡ fetched_from (pages_in map words).bytes a (rights_in o)
+  fetched_alike a None e aligned = refl
+  fetched_alike a (Some m) e aligned = fetched_by m a m.rights refl e aligned
+
+  loaded_alike : (a : ℕ) (width : Width) (o : Option Mapping) → map (a / 4096) ≡ o → a % size_of width ≡ 0
+      → read_at words Load width a (mapped o a Load) ≡ loaded_from (pages_in map words).bytes a width (rights_in o)
+  loaded_alike a width None e aligned = refl
+  loaded_alike a width (Some m) e aligned = ap Ok (value_read m a width e aligned)
+
+-- the bytes of the pages after a value is written in the word of its page
+module _ {words : WordMap} {root : ℕ} {map : ℕ → Option Mapping} (is : IsMapped words root map) (changed : WordMap) (m : Mapping) (a : ℕ) (width : Width) (value : ℕ) where
+  pub record IsWritten : Type 0 where
+    pub page : map (a / 4096) ≡ Some m
+    pub aligned : a % size_of width ≡ 0
+    pub set : (f w : ℕ) → changed f w ≡ (if (f == m.frame) && (w == a % 4096 / 4) then Some (overwritten (word_or_zero (words m.frame (a % 4096 / 4))) (a % 4096 % 4) width value) else words f w)
+
+  same_word : IsWritten → (b : ℕ) → b / 4 ≡ a / 4 → byte_in changed (b % 4096) (map (b / 4096)) ≡ with_value (pages_in map words).bytes a width value b
+  same_word written b near =
+      let word : ℕ = word_or_zero (words m.frame (a % 4096 / 4)) in
+      let here : changed m.frame (a % 4096 / 4) ≡ Some (overwritten word (a % 4096 % 4) width value) =
+          written.set m.frame (a % 4096 / 4) ∙ grind (arith, nat_tests) in
+      byte_of_page changed map m a b written.page near
+      ∙ ap (λ o. byte_of (word_or_zero o) (b % 4)) here
+      ∙ byte_of-overwritten word (a % 4096 % 4) (b % 4) width value (omega arith) (omega arith) (in_word a width written.aligned)
+      ∙ shifted (byte_of word) (pages_in map words).bytes (4 * (a / 4)) (a % 4096 % 4) (b % 4) a b width value (omega arith) (omega arith)
+        (sym (byte_of_page words map m a b written.page near))
+
+  untouched : IsWritten → (b : ℕ) (o : Option Mapping) → b / 4 ≢ a / 4 → map (b / 4096) ≡ o → byte_in changed (b % 4096) o ≡ byte_in words (b % 4096) o
+  untouched written b None apart e = refl
+  untouched written b (Some n) apart e =
+      let either_way : (n.frame ≢ m.frame) ⊎ (b % 4096 / 4 ≢ a % 4096 / 4) = elim (cases_eq (b / 4096) (a / 4096)) [
+        | inl same ↦ inr (λ q. apart (omega arith))
+        | inr other ↦ inl (λ q. other (is.apart (b / 4096) (a / 4096) n m e written.page q))
+      ] in
+      ap (λ o. byte_of (word_or_zero o) (b % 4096 % 4)) (written.set n.frame (b % 4096 / 4) ∙ elsewhere n.frame (b % 4096 / 4) m.frame (a % 4096 / 4) _ _ either_way)
+
+  bytes_after : IsWritten → (b : ℕ) → with_value (pages_in map words).bytes a width value b ≡ byte_in changed (b % 4096) (map (b / 4096))
+  bytes_after written b = elim (cases_eq (b / 4) (a / 4)) [
+    | inl near ↦ sym (same_word written b near)
+    | inr apart ↦ outside (pages_in map words).bytes a b width value written.aligned apart ∙ sym (untouched written b (map (b / 4096)) apart refl)
+  ]
+
+  pub pages_in-written : IsWritten → record { rights = (pages_in map words).rights; bytes = with_value (pages_in map words).bytes a width value } ≡ pages_in map changed
+  pages_in-written written = pages_ext _ _ (λ page. refl) (bytes_after written)
+
 module _ {Image : Type 0} (words : Image → WordMap) (satp : Image → ℕ) (with_word : Image → (frame place value : ℕ) → Image) (Fits : Image → Type 0) where
   -- an image whose tables map pages to frames of their own, and the pages that a program has by them
   pub record IsSpaceOf (root : ℕ) (map : ℕ → Option Mapping) (image : Image) (pages : Pages) : Type 0 where
@@ -173,12 +248,29 @@ module _ {Image : Type 0} (words : Image → WordMap) (satp : Image → ℕ) (wi
     pub same_satp : (image : Image) (frame place value : ℕ) → satp (with_word image frame place value) ≡ satp image
 
   module _ {root : ℕ} {map : ℕ → Option Mapping} where
-    fetched_alike : (image : Image) (pages : Pages) (address : ℕ) (o : Option Mapping) → IsSpaceOf root map image pages → address % 4 ≡ 0 → map (address / 4096) ≡ o
-        → read_at (words image) Fetch Word address (mapped o address Fetch) ≡ fetched_from pages.bytes address (rights_in o)
-    fetched_alike image pages address o is aligned e = ?
+    stored_by : SetsWords → (image : Image) (pages : Pages) (a : ℕ) (width : Width) (value : ℕ) (m : Mapping) (rights : Rights)
+        → IsSpaceOf root map image pages → m.rights ≡ rights → map (a / 4096) ≡ Some m → a % size_of width ≡ 0
+        → FollowsStore (IsSpaceOf root map) (sv32_space words satp with_word) page_space (written_at words satp with_word image width value a (mapped (Some m) a Store)) (stored_in pages a width value (Some m.rights))
+    stored_by sets image pages a width value m rights is r e aligned = ?
 
+    stored_alike : SetsWords → (image : Image) (pages : Pages) (a : ℕ) (width : Width) (value : ℕ) (o : Option Mapping)
+        → IsSpaceOf root map image pages → map (a / 4096) ≡ o → a % size_of width ≡ 0
+        → FollowsStore (IsSpaceOf root map) (sv32_space words satp with_word) page_space (written_at words satp with_word image width value a (mapped o a Store)) (stored_in pages a width value (rights_in o))
+    stored_alike sets image pages a width value None is e aligned = refl
+    stored_alike sets image pages a width value (Some m) is e aligned = stored_by sets image pages a width value m m.rights is refl e aligned
+
+    -- the program's memory answers as its pages do
     pub space_follows : SetsWords → Alike (IsSpaceOf root map) (sv32_space words satp with_word) page_space
-    space_follows sets = ?
+    unfolding sv32_space page_space
+    space_follows sets = record {
+      fetched = λ image pages a is fits aligned.
+          rw (is.on, translated-mapped is.tables a Fetch fits, is.holds) (fetched_alike (words image) map a (map (a / 4096)) refl aligned);
+      loaded = λ image pages a width is fits aligned.
+          rw (is.on, translated-mapped is.tables a Load fits, is.holds) (loaded_alike (words image) map a width (map (a / 4096)) refl aligned);
+      stored = λ image pages a width value is fits aligned.
+          let rights : pages.rights (a / 4096) ≡ rights_in (map (a / 4096)) = ap (λ (p : Pages). p.rights (a / 4096)) is.holds in
+          rw (is.on, translated-mapped is.tables a Store fits, rights) (stored_alike sets image pages a width value (map (a / 4096)) is refl aligned);
+    }
 
     -- so a step of the program on its page tables is a step on its pages, and the tables stay as they are
     pub steps_follow : SetsWords → (image : Image) (regs : List ℕ) (pc : ℕ) → Fits image → IsMapped (words image) root map → satp image ≡ satp_of root → pc < 2 ^ 32
