@@ -251,7 +251,21 @@ module _ {Image : Type 0} (words : Image → WordMap) (satp : Image → ℕ) (wi
     stored_by : SetsWords → (image : Image) (pages : Pages) (a : ℕ) (width : Width) (value : ℕ) (m : Mapping) (rights : Rights)
         → IsSpaceOf root map image pages → m.rights ≡ rights → map (a / 4096) ≡ Some m → a % size_of width ≡ 0
         → FollowsStore (IsSpaceOf root map) (sv32_space words satp with_word) page_space (written_at words satp with_word image width value a (mapped (Some m) a Store)) (stored_in pages a width value (Some m.rights))
-    stored_by sets image pages a width value m rights is r e aligned = ?
+    stored_by sets image pages a width value m Code is r e aligned = rw r refl
+    stored_by sets image pages a width value m Values is r e aligned =
+        let place : ℕ = a % 4096 / 4 in
+        let new : ℕ = overwritten (word_or_zero (words image m.frame place)) (a % 4096 % 4) width value in
+        let after : Image = with_word image m.frame place new in
+        let old = is.tables.whole (a / 4096) m e place (omega arith) in
+        let set : (f w : ℕ) → words after f w ≡ (if (f == m.frame) && (w == place) then Some new else words image f w) =
+            λ f w. sets.set image m.frame place new f w is.fits old.0 old.1 (omega arith) in
+        let written : IsWritten is.tables (words after) m a width value = record { page = e; aligned = aligned; set = set } in
+        rw r (record { rights = pages.rights; bytes = with_value pages.bytes a width value }, refl, record {
+          fits = sets.kept image m.frame place new is.fits;
+          tables = IsMapped-set is.tables (words after) (a / 4096) m place new e set;
+          on = sets.same_satp image m.frame place new ∙ is.on;
+          holds = rw is.holds (pages_in-written is.tables (words after) m a width value written);
+        })
 
     stored_alike : SetsWords → (image : Image) (pages : Pages) (a : ℕ) (width : Width) (value : ℕ) (o : Option Mapping)
         → IsSpaceOf root map image pages → map (a / 4096) ≡ o → a % size_of width ≡ 0
