@@ -1,20 +1,24 @@
--- Entries of page tables as a kernel makes them.
+-- The entries that a kernel puts into its page tables, and what they give to a program.
 use Rattle.std.specs.Prelude.{ℕ, ◌+◌, ◌*◌, Bool, true, false}
 use Rattle.ow_base.specs.declared.machine.Access.{Access}
 use Rattle.ow_base.specs.declared.machine.Access.TheVariants.{Fetch, Load, Store}
 use Rattle.ow_base.specs.declared.machine.Rights.{Rights}
 use Rattle.ow_base.specs.declared.machine.Rights.TheVariants.{Code, Values}
 
--- a leaf that gives a page's rights to programs: V, R, X, U and A for code, V, R, W, U, A and D for values
-abbrev pub leaf_word : (frame : ℕ) → Rights → ℕ
-leaf_word frame Code = frame * 1024 + 0x5b
-leaf_word frame Values = frame * 1024 + 0xd7
+-- the flags of a leaf: V 1, R 2, U 16 and A 64, for code X 8, for values W 4 and D 128
+abbrev pub leaf_flags : Rights → ℕ
+leaf_flags Code = 1 + 2 + 8 + 16 + 64
+leaf_flags Values = 1 + 2 + 4 + 16 + 64 + 128
 
--- an entry that names a further table
+-- the entry that gives a frame as a page
+abbrev pub leaf_word : (frame : ℕ) → Rights → ℕ
+leaf_word frame rights = frame * 1024 + leaf_flags rights
+
+-- the entry that names a frame as a table of the last level: V alone
 abbrev pub pointer_word : (frame : ℕ) → ℕ
 pointer_word frame = frame * 1024 + 1
 
--- the rights of a page give this access
+-- the accesses that rights give
 abbrev pub granted : Access → Rights → Bool
 granted Fetch Code = true
 granted Fetch Values = false

@@ -1,0 +1,132 @@
+ghost use Rattle.std.specs.Prelude.{◌≡◌, ◌<◌, ◌^◌};
+ghost use Rattle.ow_base.specs.Words.{bits};
+ghost use Rattle.ow_base.specs.Sv32.{translated, by_first, by_superpage, by_last, by_leaf};
+
+use crate::entry::Entry;
+use ow_base::{Access, PageCause, Phys, WordSource};
+
+// The bytes of a page.
+const PAGE: u32 = 4096;
+
+// The bytes that an entry of the first level speaks of.
+const SUPERPAGE: u32 = 0x40_0000;
+
+// The entries of a table, and so the pages of a superpage.
+const ENTRIES: u32 = 1024;
+
+// The frames that `satp` can name: PPN is its 22 lowest bits.
+const FRAMES: u32 = 0x40_0000;
+
+/// Where an access of a program to the address `va` leads, by the tables whose root `satp` names. MODE is 1 in
+/// `satp`: Sv32 is on.
+///
+/// `Err(Page)` where an entry does not count, leads no further, does not give the access or is a superpage that
+/// is not aligned; `Err(Access)` where a table or the place lies in a frame that is not there.
+#[tactic(auto, unfolding(ow_base::specs::Sv32::translated))]
+pub fn walk<W: WordSource>(
+    source: &W,
+    satp: u32,
+    va: u32,
+    access: Access,
+) -> Result<Phys, PageCause>
+    requires mode { bits satp 31 1 ≡ 1 }
+    ensures { result ≡ translated (W.words source.now) satp va access }
+{
+    let root = satp % FRAMES;
+    match source.load(root, first_place(va)) {
+        Some(word) => first_level(source, access, va, Entry { word }),
+        None => Err(PageCause::Access),
+    }
+}
+
+// The place of an address in the table of the first level, and in one of the last level.
+fn first_place(address: u32) -> u32
+    ensures value { result ≡ bits address 22 10 }
+    ensures fits { result < 1024 }
+{
+    address / SUPERPAGE
+}
+
+fn last_place(address: u32) -> u32
+    ensures value { result ≡ bits address 12 10 }
+    ensures fits { result < 1024 }
+{
+    address / PAGE % ENTRIES
+}
+
+fn first_level<W: WordSource>(
+    source: &W,
+    access: Access,
+    address: u32,
+    entry: Entry,
+) -> Result<Phys, PageCause>
+    ensures { result ≡ by_first (W.words source.now) access address (Some entry.word) }
+{
+    if !entry.is_valid() {
+        return Err(PageCause::Page);
+    }
+    if entry.is_leaf() {
+        return superpage(source, access, address, entry);
+    }
+    match source.load(entry.frame(), last_place(address)) {
+        Some(word) => last_level(source, access, address, Entry { word }),
+        None => Err(PageCause::Access),
+    }
+}
+
+#[tactic(auto, unfolding(ow_base::specs::Sv32::by_superpage))]
+fn superpage<W: WordSource>(
+    source: &W,
+    access: Access,
+    address: u32,
+    entry: Entry,
+) -> Result<Phys, PageCause>
+    ensures { result ≡ by_superpage (W.words source.now) access address entry.word }
+{
+    let first_frame = entry.frame();
+    if first_frame % ENTRIES != 0 {
+        return Err(PageCause::Page);
+    }
+    page(
+        source,
+        access,
+        address,
+        entry,
+        first_frame + last_place(address),
+    )
+}
+
+fn last_level<W: WordSource>(
+    source: &W,
+    access: Access,
+    address: u32,
+    entry: Entry,
+) -> Result<Phys, PageCause>
+    ensures { result ≡ by_last (W.words source.now) access address (Some entry.word) }
+{
+    if !entry.is_valid() || !entry.is_leaf() {
+        return Err(PageCause::Page);
+    }
+    page(source, access, address, entry, entry.frame())
+}
+
+// The place in the page that a leaf gives. Whether its frame is there is asked after the right to it.
+#[tactic(auto, unfolding(ow_base::specs::Sv32::by_leaf))]
+fn page<W: WordSource>(
+    source: &W,
+    access: Access,
+    address: u32,
+    entry: Entry,
+    frame: u32,
+) -> Result<Phys, PageCause>
+    ensures { result ≡ by_leaf (W.words source.now) access address entry.word frame }
+{
+    if !entry.permits(access) {
+        return Err(PageCause::Page);
+    }
+    let offset = address % PAGE;
+    match source.load(frame, offset / 4) {
+        Some(_) => Ok(Phys { frame, offset }),
+        None => Err(PageCause::Access),
+    }
+}
