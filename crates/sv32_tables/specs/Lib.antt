@@ -1,3 +1,5 @@
--- The definitions that the contracts cite: the flags of an entry, and the entries that a kernel makes.
+-- The definitions that the contracts cite: the flags of an entry, the entries that a kernel makes, and programs
+-- whose tables map distinct frames.
 pub mod Flags
 pub mod Entries
+pub mod Spaces
