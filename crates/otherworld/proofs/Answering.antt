@@ -7,7 +7,8 @@ use Rattle.ow_base.specs.Pages.{Pages, is_readable, bytes_at}
 use Rattle.ow_base.specs.Unix.{CallState}
 use Rattle.ow_base.specs.Calls.{answered, stays_in, tty_write, write_entry, description_of, called, call_number, exit_entry, ended_as, tty_piece}
 use Rattle.ow_base.specs.declared.machine.Bank.{Bank}
-use Rattle.ow_plant.specs.State.{PlantState, pages_of}
+use Rattle.ow_plant.specs.State.{PlantState}
+use Rattle.otherworld.specs.State.{pages_at}
 use Rattle.otherworld.specs.declared.kernel_traps.Life.{Life}
 use Rattle.otherworld.specs.declared.kernel_traps.Life.TheVariants.{Outside, Writing, Ended}
 use Rattle.otherworld.specs.State.{unix_of, kernel_in, process_in, answered_life, stopped_life, written_life, with_puts, IsMadeBy, the_description}
@@ -27,16 +28,16 @@ length-bytes_at pages a (suc n) = ap suc (length-bytes_at pages (a + 1) n)
 
 -- a piece that is stopped
 pub stops : (tty done : ℕ) (bank : Bank) (s : PlantState) → s.in_user ≡ false
-    → is_readable (pages_of s.pages) (register bank.regs 11 + done) (tty_piece (register bank.regs 12) done) ≡ false
+    → is_readable (pages_at s.memory) (register bank.regs 11 + done) (tty_piece (register bank.regs 12) done) ≡ false
     → IsMadeBy (λ u p. tty_write u 1 p tty done) tty bank s s (stopped_life bank done 14)
 unfolding tty_write
 stops tty done bank s h unreadable o call live = rw unreadable (answers tty (cond (nat_eq done 0) (minus 14) done) bank s h o call live)
 
 -- a piece that is written, and then either answers or stays in the call
 pub writes_piece : (tty done : ℕ) (bank : Bank) (s : PlantState) → s.in_user ≡ false → tty < 2
-    → is_readable (pages_of s.pages) (register bank.regs 11 + done) (tty_piece (register bank.regs 12) done) ≡ true
+    → is_readable (pages_at s.memory) (register bank.regs 11 + done) (tty_piece (register bank.regs 12) done) ≡ true
     → IsMadeBy (λ u p. tty_write u 1 p tty done) tty bank s
-    (with_puts s tty (bytes_at (pages_of s.pages) (register bank.regs 11 + done) (tty_piece (register bank.regs 12) done)))
+    (with_puts s tty (bytes_at (pages_at s.memory) (register bank.regs 11 + done) (tty_piece (register bank.regs 12) done)))
     (written_life bank (done + tty_piece (register bank.regs 12) done) (register bank.regs 12))
 unfolding tty_write unix_of answered stays_in
 writes_piece tty done bank s h which readable (Outside b) call live = rw readable (grind (arith, common_steps))
@@ -67,13 +68,13 @@ description_of-closed s tty o call bank pages (suc (suc (suc (suc (suc (suc (suc
 -- the entry of a write: a closed descriptor, a count that is none, no bytes, or the first piece
 pub write_entry-closed : (tty : ℕ) (bank : Bank) (old new : PlantState) (life : Life) → 2 < register bank.regs 10 → IsMadeBy (λ u p. answered u 1 p (minus 9)) tty bank old new life → IsMadeBy (λ u p. write_entry u 1 p) tty bank old new life
 unfolding write_entry
-write_entry-closed tty bank old new life h made o call live = rw (description_of-closed old tty o call bank (pages_of old.pages) (register bank.regs 10) h) (made o call live)
+write_entry-closed tty bank old new life h made o call live = rw (description_of-closed old tty o call bank (pages_at old.memory) (register bank.regs 10) h) (made o call live)
 
 pub write_entry-open : (tty : ℕ) (bank : Bank) (old new : PlantState) (life : Life) → register bank.regs 10 ≤ 2
     → IsMadeBy (λ u p. cond (nat_lt 0x7fffffff (register bank.regs 12)) (answered u 1 p (minus 22)) (cond (nat_eq (register bank.regs 12) 0) (answered u 1 p 0) (tty_write u 1 p tty 0))) tty bank old new life
     → IsMadeBy (λ u p. write_entry u 1 p) tty bank old new life
 unfolding write_entry
-write_entry-open tty bank old new life h made o call live = rw (description_of-open old tty o call bank (pages_of old.pages) (register bank.regs 10) h) (made o call live)
+write_entry-open tty bank old new life h made o call live = rw (description_of-open old tty o call bank (pages_at old.memory) (register bank.regs 10) h) (made o call live)
 
 -- an exit
 pub exits : (tty : ℕ) (bank : Bank) (s : PlantState) → s.in_user ≡ false → IsMadeBy (λ u p. exit_entry u 1 p) tty bank s s (Ended (register bank.regs 10 % 256))

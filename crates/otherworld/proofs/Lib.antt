@@ -1,9 +1,12 @@
 -- Lemmas of the program.
 pub mod Services
 pub mod Steps
+pub mod Seeing
 pub mod Answering
 pub mod Turns
 pub mod Sounds
+pub mod Booting
+pub mod Tables
 pub mod Loading
 pub mod Starting
 pub mod Tops

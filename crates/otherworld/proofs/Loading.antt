@@ -1,5 +1,5 @@
 -- The pages that boot places are those of the program.
-use Rattle.std.proofs.Common.{◌≡◌, ℕ, ◌+◌, ◌-◌, ◌*◌, ◌/◌, ◌%◌, ◌^◌, ◌<◌, ◌≤◌, Bool, true, false, cond, nat_eq, nat_lt, List, [], length, get_or, Some, None, refl, ap, sym, ◌∙◌, inl, inr, arith}
+use Rattle.std.proofs.Common.{◌≡◌, ℕ, ◌+◌, ◌-◌, ◌*◌, ◌/◌, ◌%◌, ◌^◌, ◌<◌, ◌≤◌, Bool, true, false, cond, nat_eq, nat_lt, List, [], if◌then◌else◌, Option, length, get_or, Some, None, refl, ap, sym, ◌∙◌, inl, inr, arith}
 use Rattle.std.proofs.lemmas.Bool.{cases_lt}
 use Rattle.std.proofs.lemmas.List.{get_or_past}
 use Rattle.std.proofs.Math.Nat.{zero-div}
@@ -10,59 +10,17 @@ use Rattle.ow_base.specs.Unix.{is_within, page_count, started_pages, started_rig
 use Rattle.ow_base.specs.declared.machine.Rights.{Rights}
 use Rattle.ow_base.specs.declared.machine.Rights.TheVariants.{Code, Values}
 use Rattle.ow_base.specs.declared.worlds.Program.{Program}
-use Rattle.otherworld.specs.State.{with_words}
 
--- no pages are placed yet
-pub with_words-none : (pages : Pages) (first : ℕ) (r : Rights) (words : List ℕ) → with_words pages first 0 r words ≡ pages
-unfolding with_words
-with_words-none pages first r words = grind (arith, common_steps)
-
--- the bytes of a page of words are theirs
-byte_in_block : (words block : List ℕ) (first k a : ℕ) → ((j : ℕ) → j < 1024 → get_or block j 0 ≡ get_or words (1024 * k + j) 0) → a / 4096 ≡ first + k
-    → byte_of_words block (a % 4096) ≡ byte_of_words words (a - 4096 * first)
-byte_in_block words block first k a same h =
-    let place : (a - 4096 * first) / 4 ≡ 1024 * k + a % 4096 / 4 = omega arith in
-    let low : (a - 4096 * first) % 4 ≡ a % 4096 % 4 = omega arith in
-    rw (place, low, same (a % 4096 / 4) (omega arith)) refl
+-- the pages with so many from a first one on that hold these words, 0 behind the last word
+abbrev pub with_words : Pages → (first count : ℕ) → Rights → (words : List ℕ) → Pages
+with_words pages first count rights words = record {
+  rights = λ page. if is_within first count page then Some rights else pages.rights page;
+  bytes = λ a. if is_within first count (a / 4096) then byte_of_words words (a - 4096 * first) else pages.bytes a;
+}
 
 -- pages that are the same everywhere are the same
 pages_equal : (p q : Pages) → ((page : ℕ) → p.rights page ≡ q.rights page) → ((a : ℕ) → p.bytes a ≡ q.bytes a) → p ≡ q
 pages_equal p q same_rights same_bytes = λ i. record { rights = λ page. same_rights page i; bytes = λ a. same_bytes a i }
-
--- the page behind so many is within one more of them, and so are those; no other is
-is_within-last : (first k : ℕ) → is_within first (k + 1) (first + k) ≡ true
-is_within-last first k = grind arith
-
-is_within-other : (first k p : ℕ) → nat_eq p (first + k) ≡ false → is_within first (k + 1) p ≡ is_within first k p
-is_within-other first k p h = grind arith
-
-rights_more : (pages : Pages) (first k : ℕ) (r : Rights) (words block : List ℕ) (b : Bool) (p : ℕ) → nat_eq p (first + k) ≡ b
-    → cond b (Some r) ((with_words pages first k r words).rights p) ≡ (with_words pages first (k + 1) r words).rights p
-unfolding with_words
-rights_more pages first k r words block true p h = let at : p ≡ first + k = grind arith in rw (at, is_within-last first k) refl
-rights_more pages first k r words block false p h = rw (is_within-other first k p h) refl
-
-bytes_more : (pages : Pages) (first k : ℕ) (r : Rights) (words block : List ℕ) (b : Bool) (a : ℕ) → ((j : ℕ) → j < 1024 → get_or block j 0 ≡ get_or words (1024 * k + j) 0) → nat_eq (a / 4096) (first + k) ≡ b
-    → cond b (byte_of_words block (a % 4096)) ((with_words pages first k r words).bytes a) ≡ (with_words pages first (k + 1) r words).bytes a
-unfolding with_words
-bytes_more pages first k r words block true a same h =
-    let at : a / 4096 ≡ first + k = grind arith in
-    let inside : is_within first (k + 1) (a / 4096) ≡ true = rw at (is_within-last first k) in
-    rw inside (byte_in_block words block first k a same at)
-bytes_more pages first k r words block false a same h = rw (is_within-other first k (a / 4096) h) refl
-
--- one page more is placed
-pub with_words-more : (pages : Pages) (first k : ℕ) (r : Rights) (words block : List ℕ) → ((j : ℕ) → j < 1024 → get_or block j 0 ≡ get_or words (1024 * k + j) 0)
-    → with_page (with_words pages first k r words) (first + k) r block ≡ with_words pages first (k + 1) r words
-with_words-more pages first k r words block same =
-    pages_equal (with_page (with_words pages first k r words) (first + k) r block) (with_words pages first (k + 1) r words)
-    (λ p. rights_more pages first k r words block _ p refl)
-    (λ a. bytes_more pages first k r words block _ a same refl)
-
--- the page behind those placed is not placed
-pub with_words-fresh : (pages : Pages) (first k : ℕ) (r : Rights) (words : List ℕ) (page : ℕ) → is_within first k page ≡ false → pages.rights page ≡ None → (with_words pages first k r words).rights page ≡ None
-unfolding with_words
-with_words-fresh pages first k r words page h none = rw h none
 
 -- behind the last word there is no byte
 byte_past : (words : List ℕ) (j : ℕ) → length words ≤ j / 4 → byte_of_words words j ≡ 0

@@ -1,10 +1,21 @@
 -- What reading a piece and putting it comes to.
 use Rattle.std.proofs.Common.{◌≡◌, ℕ, suc, ◌+◌, ◌-◌, ◌/◌, ◌^◌, ◌<◌, ◌≤◌, true, false, List, [], ◌∷◌, ◌++◌, Option, Some, None, is_some, refl, ap, sym, ◌∙◌, arith, append_assoc}
+use Rattle.std.proofs.lemmas.Bool.Decides.{nat_tests}
 use Rattle.std.proofs.lemmas.Grind.{common_steps}
 use Rattle.ow_base.specs.Screen.{Screen, drawn, drawn_all}
 use Rattle.ow_base.specs.Pages.{Pages, is_readable, bytes_at, rights_at}
 use Rattle.ow_plant.specs.State.{PlantState, with_put}
-use Rattle.otherworld.specs.State.{with_puts, IsWithinMemory}
+use Rattle.ow_base.specs.Sv32.{pages_by}
+use Rattle.phys_memory.specs.Memory.{MemoryParts}
+use Rattle.otherworld.specs.State.{with_puts, pages_at}
+
+-- no page lies past the last address
+abbrev pub IsWithinMemory : Pages → Type 0
+IsWithinMemory pages = (page : ℕ) → 2 ^ 20 ≤ page → pages.rights page ≡ None
+
+pub within_memory : (memory : MemoryParts) → IsWithinMemory (pages_at memory)
+unfolding pages_at pages_by
+within_memory memory page past = grind (arith, nat_tests)
 
 -- a byte in no page stops the piece
 pub is_readable-stops : (pages : Pages) (a n m : ℕ) → n ≡ suc m → rights_at pages a ≡ None → is_readable pages a n ≡ false

@@ -6,14 +6,15 @@ use Rattle.ow_base.specs.UserStep.{Stepped, Next, Call, Faulted}
 use Rattle.ow_base.specs.Pages.{Pages}
 use Rattle.ow_base.specs.declared.machine.Bank.{Bank}
 use Rattle.ow_base.specs.declared.machine.Fault.{Fault}
-use Rattle.ow_base.specs.declared.machine.Rights.{Rights}
-use Rattle.ow_plant.specs.State.{PlantState, pages_of, PageStore, risen, StepsAs, TakesUserTurn, tty_of, Terminal as Device}
+use Rattle.ow_plant.specs.State.{PlantState, risen, tty_of, Terminal as Device}
+use Rattle.otherworld.specs.State.{pages_at, StepsOn, TakesTurn}
 use Rattle.ow_plant.specs.declared.UserEnd.TheVariants as end
 use Rattle.otherworld.specs.declared.kernel_traps.Life.{Life}
 use Rattle.otherworld.specs.declared.kernel_traps.Life.TheVariants.{Outside, Writing, Ended}
 use Rattle.otherworld.specs.declared.kernel_traps.Kernel.{Kernel}
-use Rattle.otherworld.specs.State.{kernel_in, puts_on, with_puts, IsLifeSound, IsSound, IsTurned, IsServed, IsInService, IsTerminalSound}
-use Rattle.otherworld.proofs.Steps.{KeepsRights, KeepsRights-user_step}
+use Rattle.phys_memory.specs.Memory.{MemoryParts}
+use Rattle.otherworld.specs.State.{HasPages, kernel_in, puts_on, with_puts, IsLifeSound, IsSound, IsTurned, IsServed, IsInService, IsTerminalSound}
+use Rattle.otherworld.proofs.Steps.{HasSmallCause, HasSmallCause-user_step}
 
 -- the process in user mode is outside a call
 pub by_outside : (P : Kernel → Type 0) (s : PlantState) (k : Kernel) → s.in_user ≡ true → IsLifeSound s k.life → ((tty last : ℕ) (b : Bank) → P (record { tty = tty; last = last; life = Outside b })) → P k
@@ -44,18 +45,18 @@ put_terminal t bytes n budget few h = record {
   room = h.room;
 }
 
--- an instruction keeps the rights of the pages
-next_rights_by : (s new : PlantState) (low : Bool) (made : Stepped Pages) → KeepsRights (pages_of s.pages) made
-    → MatchBool low (StepsAs s new end.Next made) ((end.Next ≡ end.Slice) × (new ≡ s))
-    → ((pages_of new.pages).rights ≡ (pages_of s.pages).rights) × (new ≡ record s { pages = new.pages; bank = new.bank; slice = s.slice + 1; steps = risen s.steps })
-next_rights_by s new false made k m = absurd (cc m.0)
-next_rights_by s new true Call k m = absurd (cc m.0)
-next_rights_by s new true (Faulted fault) k m = absurd (cc m.0)
-next_rights_by s new true (Next regs pc pages) k m = (ap (λ (p : Pages). p.rights) m.1 ∙ k, grind (arith, common_steps, m.3))
+-- an instruction leaves the pages' tables as they are
+next_by : (s new : PlantState) (low : Bool) (made : Stepped Pages)
+    → MatchBool low (StepsOn s new end.Next made) ((end.Next ≡ end.Slice) × (new ≡ s))
+    → HasPages s.shape.user_frames new.memory × (new ≡ record s { memory = new.memory; bank = new.bank; slice = s.slice + 1; steps = risen s.steps })
+next_by s new false made m = absurd (cc m.0)
+next_by s new true Call m = absurd (cc m.0)
+next_by s new true (Faulted fault) m = absurd (cc m.0)
+next_by s new true (Next regs pc pages) m = (m.2, grind (arith, common_steps, m.3))
 
-next_kept : (s : PlantState) (pages : PageStore) (bank : Bank) (k : Kernel) → IsSound s k → s.steps < s.shape.budget → (pages_of pages).rights ≡ (pages_of s.pages).rights
-    → IsTurned s (record s { pages = pages; bank = bank; slice = s.slice + 1; steps = risen s.steps }) k
-next_kept s pages bank k sound few kept =
+next_kept : (s : PlantState) (memory : MemoryParts) (bank : Bank) (k : Kernel) → IsSound s k → s.steps < s.shape.budget → HasPages s.shape.user_frames memory
+    → IsTurned s (record s { memory = memory; bank = bank; slice = s.slice + 1; steps = risen s.steps }) k
+next_kept s memory bank k sound few kept =
     let one_more : risen s.steps ≡ s.steps + 1 = omega (arith, sound.small) in
     record {
       sound = record {
@@ -63,7 +64,8 @@ next_kept s pages bank k sound few kept =
         tty = sound.tty;
         last = sound.last;
         life = sound.life;
-        within = λ page past. ap (λ (r : ℕ → Option Rights). r page) kept ∙ sound.within page past;
+        pages = kept;
+        in_use = sound.in_use;
         budget = omega (arith, one_more);
         small = sound.small;
         few_traps = omega (arith, one_more, sound.few_traps);
@@ -75,10 +77,10 @@ next_kept s pages bank k sound few kept =
       one_step = one_more;
     }
 
-pub next_sound : (s new : PlantState) (k : Kernel) → IsSound s k → s.steps < s.shape.budget → TakesUserTurn s new end.Next → IsTurned s new k
+pub next_sound : (s new : PlantState) (k : Kernel) → IsSound s k → s.steps < s.shape.budget → TakesTurn s new end.Next → IsTurned s new k
 next_sound s new k sound few taken =
-    let kept = next_rights_by s new _ _ (KeepsRights-user_step (pages_of s.pages) s.bank.regs s.bank.pc) taken in
-    subst (λ (n : PlantState). IsTurned s n k) (sym kept.1) (next_kept s new.pages new.bank k sound few kept.0)
+    let kept = next_by s new _ _ taken in
+    subst (λ (n : PlantState). IsTurned s n k) (sym kept.1) (next_kept s new.memory new.bank k sound few kept.0)
 
 -- the plant in a trap of the process
 abbrev in_trap : PlantState → PlantState
@@ -97,7 +99,8 @@ trap_kept s tty life t0 t1 k sound few which sound0 sound1 alive =
         tty = which;
         last = omega arith;
         life = alive;
-        within = sound.within;
+        pages = sound.pages;
+        in_use = λ inside. absurd (cc inside);
         budget = omega (arith, step_more);
         small = sound.small;
         few_traps = omega (arith, step_more, trap_more, sound.few_traps);
@@ -134,17 +137,17 @@ service_of s k sound few = record {
   armed = sound.armed;
   in_kernel = refl;
   which = sound.tty;
-  within = sound.within;
+  pages = sound.pages;
   room = room_of s k.tty k sound few sound.tty;
 }
 
 -- a fault of a user turn has a small cause
-small_by : (s new : PlantState) (fault : Fault) (low : Bool) (made : Stepped Pages) → KeepsRights (pages_of s.pages) made
-    → MatchBool low (StepsAs s new (end.Fault fault) made) ((end.Fault fault ≡ end.Slice) × (new ≡ s)) → fault.cause < 16
-small_by s new fault false made k m = absurd (cc m.0)
-small_by s new fault true Call k m = absurd (cc m.0)
-small_by s new fault true (Faulted other) k m = let same : fault ≡ other = cc m.0 in rw same k
-small_by s new fault true (Next regs pc pages) k m = absurd (cc m.0)
+small_by : (s new : PlantState) (fault : Fault) (low : Bool) (made : Stepped Pages) → HasSmallCause made
+    → MatchBool low (StepsOn s new (end.Fault fault) made) ((end.Fault fault ≡ end.Slice) × (new ≡ s)) → fault.cause < 16
+small_by s new fault false made small m = absurd (cc m.0)
+small_by s new fault true Call small m = absurd (cc m.0)
+small_by s new fault true (Faulted other) small m = let same : fault ≡ other = cc m.0 in rw same small
+small_by s new fault true (Next regs pc pages) small m = absurd (cc m.0)
 
-pub small_cause : (s new : PlantState) (fault : Fault) → TakesUserTurn s new (end.Fault fault) → fault.cause < 16
-small_cause s new fault taken = small_by s new fault _ _ (KeepsRights-user_step (pages_of s.pages) s.bank.regs s.bank.pc) taken
+pub small_cause : (s new : PlantState) (fault : Fault) → TakesTurn s new (end.Fault fault) → fault.cause < 16
+small_cause s new fault taken = small_by s new fault _ _ (HasSmallCause-user_step (pages_at s.memory) s.bank.regs s.bank.pc) taken

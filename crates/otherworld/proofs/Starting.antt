@@ -7,7 +7,8 @@ use Rattle.ow_base.specs.declared.machine.Bank.{Bank}
 use Rattle.ow_base.specs.declared.worlds.Load.{Load}
 use Rattle.ow_base.specs.declared.worlds.Program.{Program}
 use Rattle.ow_base.specs.declared.worlds.Start.{Start as Started}
-use Rattle.ow_plant.specs.State.{PlantState, pages_of, silent_terminal as silent_device, Terminal as Device}
+use Rattle.ow_plant.specs.State.{PlantState, silent_terminal as silent_device, Terminal as Device}
+use Rattle.otherworld.specs.State.{pages_at}
 use Rattle.otherworld.specs.declared.kernel_traps.Life.TheVariants.{Outside}
 use Rattle.otherworld.specs.State.{unix_of, only, process_in, the_description, terminals_of, IsBuilt, IsTerminalSound, IsSound}
 
@@ -15,7 +16,7 @@ module _ (load : Load) (program : Program) (start : Started) (built : IsBuilt lo
   starts_process : (pid : ℕ) → only (Some (process_in Out started_bank (started_pages program))) pid ≡ started_as load pid
   unfolding started_as started_process
   starts_process zero = refl
-  starts_process (suc zero) = rw (built.starts, built.named, built.programs) refl
+  starts_process (suc zero) = rw (built.starts, built.named) refl
   starts_process (suc (suc n)) =
       let one : nat_eq (suc (suc n)) 1 ≡ false = grind arith in
       let none : nat_eq (suc (suc n)) 0 ≡ false = grind arith in
@@ -40,7 +41,7 @@ silent s room e f (suc (suc n)) =
 
 -- the state after boot, part by part
 pub start_of-booted : (load : Load) (program : Program) (start : Started) (s : PlantState) (room : ℕ) → IsBuilt load program start
-    → s.in_user ≡ false → pages_of s.pages ≡ started_pages program → s.tty0 ≡ silent_device room → s.tty1 ≡ silent_device room → s.steps ≡ 0 → s.traps ≡ 0
+    → s.in_user ≡ false → pages_at s.memory ≡ started_pages program → s.tty0 ≡ silent_device room → s.tty1 ≡ silent_device room → s.steps ≡ 0 → s.traps ≡ 0
     → unix_of s (record { tty = start.tty; last = 0; life = Outside started_bank }) ≡ start_of load
 unfolding unix_of start_of
 start_of-booted load program start s room built idle pages tty0 tty1 steps traps =
@@ -75,7 +76,7 @@ started_within cp dp page few few_values past = grind arith
 
 -- the state after boot is sound
 pub IsSound-booted : (program : Program) (s : PlantState) (tty : ℕ) (b : Bank) → length program.code ≤ 65536 → length program.values ≤ 65536 → tty < 2 → s.shape.budget ≤ 2000000
-    → s.armed ≡ true → pages_of s.pages ≡ started_pages program → s.tty0 ≡ silent_device (16 * s.shape.budget) → s.tty1 ≡ silent_device (16 * s.shape.budget) → s.steps ≡ 0 → s.traps ≡ 0 → s.history ≡ []
+    → s.armed ≡ true → pages_at s.memory ≡ started_pages program → s.tty0 ≡ silent_device (16 * s.shape.budget) → s.tty1 ≡ silent_device (16 * s.shape.budget) → s.steps ≡ 0 → s.traps ≡ 0 → s.history ≡ []
     → IsSound s (record { tty = tty; last = 0; life = Outside b })
 unfolding started_pages
 IsSound-booted program s tty b few few_values which small armed pages tty0 tty1 steps traps history = record {

@@ -29,9 +29,8 @@ IsBuilt-world input world program start d value p s =
     let same_program : program ≡ value.program = p ∙ ap (λ (xs : List Program). get_or xs 0 program) value.one_program in
     let same_start : start ≡ value.start = s ∙ ap (λ (xs : List Started). get_or xs 0 d) value.one_start in
     rw (same_program, same_start) (record {
-      programs = value.one_program;
       starts = value.one_start;
-      named = value.named;
+      named = rw (value.one_program, value.named) refl;
       tty = value.tty;
       short_code = value.block.code.longest;
       short_values = value.block.values.longest;

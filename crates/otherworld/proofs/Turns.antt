@@ -15,19 +15,20 @@ use Rattle.ow_base.specs.declared.machine.Fault.{Fault}
 use Rattle.ow_base.specs.declared.machine.Shape.{Shape}
 use Rattle.ow_base.specs.declared.machine.Came.{Came}
 use Rattle.ow_base.specs.declared.machine.Came.TheVariants as came
-use Rattle.ow_plant.specs.State.{PlantState, pages_of, entered, returned_to, risen, StepsAs, TakesUserTurn}
+use Rattle.ow_plant.specs.State.{PlantState, entered, returned_to, risen}
+use Rattle.otherworld.specs.State.{pages_at, StepsOn, TakesTurn}
 use Rattle.ow_plant.specs.declared.UserEnd.TheVariants as end
 use Rattle.otherworld.specs.declared.kernel_traps.Life.{Life}
 use Rattle.otherworld.specs.declared.kernel_traps.Life.TheVariants.{Outside, Writing, Ended}
 use Rattle.otherworld.specs.declared.kernel_traps.Kernel.{Kernel}
-use Rattle.otherworld.specs.State.{unix_of, kernel_in, process_in, the_description, IsMadeBy, IsLive}
+use Rattle.otherworld.specs.State.{root_frame, unix_of, kernel_in, process_in, the_description, IsMadeBy, IsLive}
 
 -- the kernel's words when the process is outside a call
 kernel_at : (tty last : ℕ) → Bank → Kernel
 kernel_at tty last b = record { tty = tty; last = last; life = Outside b }
 
 -- the turn of a process in user mode
-at_user : (q : ℕ) (s : PlantState) (tty last : ℕ) (b : Bank) → s.in_user ≡ true → turn_at q (unix_of s (kernel_at tty last b)) (unix_of s (kernel_at tty last b)).position ≡ user_turn q (unix_of s (kernel_at tty last b)) 1 s.slice (Some (process_in Out s.bank (pages_of s.pages)))
+at_user : (q : ℕ) (s : PlantState) (tty last : ℕ) (b : Bank) → s.in_user ≡ true → turn_at q (unix_of s (kernel_at tty last b)) (unix_of s (kernel_at tty last b)).position ≡ user_turn q (unix_of s (kernel_at tty last b)) 1 s.slice (Some (process_in Out s.bank (pages_at s.memory)))
 unfolding unix_of turn_at kernel_at
 at_user q s tty last b h = rw h refl
 
@@ -38,49 +39,49 @@ unfolding unix_of trapped
 traps_user s tty last b c e h steps traps = rw (e, h) (grind (arith, common_steps))
 
 -- an instruction
-next_by : (s new : PlantState) (tty last : ℕ) (b : Bank) (low : Bool) (made : Stepped Pages) → s.in_user ≡ true → s.steps < 2 ^ 32 - 1 → nat_lt s.slice s.shape.quantum ≡ low → user_step page_space s.bank.regs s.bank.pc (pages_of s.pages) ≡ made
-    → MatchBool low (StepsAs s new end.Next made) ((end.Next ≡ end.Slice) × (new ≡ s))
-    → unix_of new (kernel_at tty last b) ≡ user_turn s.shape.quantum (unix_of s (kernel_at tty last b)) 1 s.slice (Some (process_in Out s.bank (pages_of s.pages)))
+next_by : (s new : PlantState) (tty last : ℕ) (b : Bank) (low : Bool) (made : Stepped Pages) → s.in_user ≡ true → s.steps < 2 ^ 32 - 1 → nat_lt s.slice s.shape.quantum ≡ low → user_step page_space s.bank.regs s.bank.pc (pages_at s.memory) ≡ made
+    → MatchBool low (StepsOn s new end.Next made) ((end.Next ≡ end.Slice) × (new ≡ s))
+    → unix_of new (kernel_at tty last b) ≡ user_turn s.shape.quantum (unix_of s (kernel_at tty last b)) 1 s.slice (Some (process_in Out s.bank (pages_at s.memory)))
 unfolding unix_of user_turn stepped step_of kernel_at
 next_by s new tty last b false made h few e f m = absurd (cc m.0)
 next_by s new tty last b true Call h few e f m = absurd (cc m.0)
 next_by s new tty last b true (Faulted fault) h few e f m = absurd (cc m.0)
 next_by s new tty last b true (Next regs pc pages) h few e f m = rw (e, f, h) (grind (arith, common_steps, m))
 
-pub next_turn : (s new : PlantState) (tty last : ℕ) (b : Bank) → s.in_user ≡ true → s.steps < 2 ^ 32 - 1 → TakesUserTurn s new end.Next
+pub next_turn : (s new : PlantState) (tty last : ℕ) (b : Bank) → s.in_user ≡ true → s.steps < 2 ^ 32 - 1 → TakesTurn s new end.Next
     → unix_of new (record { tty = tty; last = last; life = Outside b }) ≡ turn_at s.shape.quantum (unix_of s (record { tty = tty; last = last; life = Outside b })) (unix_of s (record { tty = tty; last = last; life = Outside b })).position
 unfolding kernel_at
 next_turn s new tty last b h few taken = next_by s new tty last b _ _ h few refl refl taken ∙ sym (at_user s.shape.quantum s tty last b h)
 
 -- what a user turn answers, but for an instruction: the end of the slice, a call or a fault; the plant stays
 slice_by : (s new : PlantState) (low : Bool) (made : Stepped Pages) → nat_lt s.slice s.shape.quantum ≡ low
-    → MatchBool low (StepsAs s new end.Slice made) ((end.Slice ≡ end.Slice) × (new ≡ s)) → (nat_lt s.slice s.shape.quantum ≡ false) × (new ≡ s)
+    → MatchBool low (StepsOn s new end.Slice made) ((end.Slice ≡ end.Slice) × (new ≡ s)) → (nat_lt s.slice s.shape.quantum ≡ false) × (new ≡ s)
 slice_by s new false made e m = (e, m.1)
 slice_by s new true Call e m = absurd (cc m.0)
 slice_by s new true (Faulted fault) e m = absurd (cc m.0)
 slice_by s new true (Next regs pc pages) e m = absurd (cc m.0)
 
-pub slice_taken : (s new : PlantState) → TakesUserTurn s new end.Slice → (nat_lt s.slice s.shape.quantum ≡ false) × (new ≡ s)
+pub slice_taken : (s new : PlantState) → TakesTurn s new end.Slice → (nat_lt s.slice s.shape.quantum ≡ false) × (new ≡ s)
 slice_taken s new taken = slice_by s new _ _ refl taken
 
-call_by : (s new : PlantState) (low : Bool) (made : Stepped Pages) → nat_lt s.slice s.shape.quantum ≡ low → user_step page_space s.bank.regs s.bank.pc (pages_of s.pages) ≡ made
-    → MatchBool low (StepsAs s new end.Call made) ((end.Call ≡ end.Slice) × (new ≡ s)) → (nat_lt s.slice s.shape.quantum ≡ true) × (user_step page_space s.bank.regs s.bank.pc (pages_of s.pages) ≡ Call) × (new ≡ s)
+call_by : (s new : PlantState) (low : Bool) (made : Stepped Pages) → nat_lt s.slice s.shape.quantum ≡ low → user_step page_space s.bank.regs s.bank.pc (pages_at s.memory) ≡ made
+    → MatchBool low (StepsOn s new end.Call made) ((end.Call ≡ end.Slice) × (new ≡ s)) → (nat_lt s.slice s.shape.quantum ≡ true) × (user_step page_space s.bank.regs s.bank.pc (pages_at s.memory) ≡ Call) × (new ≡ s)
 call_by s new false made e f m = absurd (cc m.0)
 call_by s new true Call e f m = (e, f, m.1)
 call_by s new true (Faulted fault) e f m = absurd (cc m.0)
 call_by s new true (Next regs pc pages) e f m = absurd (cc m.0)
 
-pub call_taken : (s new : PlantState) → TakesUserTurn s new end.Call → (nat_lt s.slice s.shape.quantum ≡ true) × (user_step page_space s.bank.regs s.bank.pc (pages_of s.pages) ≡ Call) × (new ≡ s)
+pub call_taken : (s new : PlantState) → TakesTurn s new end.Call → (nat_lt s.slice s.shape.quantum ≡ true) × (user_step page_space s.bank.regs s.bank.pc (pages_at s.memory) ≡ Call) × (new ≡ s)
 call_taken s new taken = call_by s new _ _ refl refl taken
 
-fault_by : (s new : PlantState) (fault : Fault) (low : Bool) (made : Stepped Pages) → nat_lt s.slice s.shape.quantum ≡ low → user_step page_space s.bank.regs s.bank.pc (pages_of s.pages) ≡ made
-    → MatchBool low (StepsAs s new (end.Fault fault) made) ((end.Fault fault ≡ end.Slice) × (new ≡ s)) → (nat_lt s.slice s.shape.quantum ≡ true) × (user_step page_space s.bank.regs s.bank.pc (pages_of s.pages) ≡ Faulted fault) × (new ≡ s)
+fault_by : (s new : PlantState) (fault : Fault) (low : Bool) (made : Stepped Pages) → nat_lt s.slice s.shape.quantum ≡ low → user_step page_space s.bank.regs s.bank.pc (pages_at s.memory) ≡ made
+    → MatchBool low (StepsOn s new (end.Fault fault) made) ((end.Fault fault ≡ end.Slice) × (new ≡ s)) → (nat_lt s.slice s.shape.quantum ≡ true) × (user_step page_space s.bank.regs s.bank.pc (pages_at s.memory) ≡ Faulted fault) × (new ≡ s)
 fault_by s new fault false made e f m = absurd (cc m.0)
 fault_by s new fault true Call e f m = absurd (cc m.0)
 fault_by s new fault true (Faulted other) e f m = let same : fault ≡ other = cc m.0 in (e, rw same f, m.1)
 fault_by s new fault true (Next regs pc pages) e f m = absurd (cc m.0)
 
-pub fault_taken : (s new : PlantState) (fault : Fault) → TakesUserTurn s new (end.Fault fault) → (nat_lt s.slice s.shape.quantum ≡ true) × (user_step page_space s.bank.regs s.bank.pc (pages_of s.pages) ≡ Faulted fault) × (new ≡ s)
+pub fault_taken : (s new : PlantState) (fault : Fault) → TakesTurn s new (end.Fault fault) → (nat_lt s.slice s.shape.quantum ≡ true) × (user_step page_space s.bank.regs s.bank.pc (pages_at s.memory) ≡ Faulted fault) × (new ≡ s)
 fault_taken s new fault taken = fault_by s new fault _ _ refl refl taken
 
 -- the end of a slice
@@ -91,28 +92,28 @@ slice_turn s tty last b h steps traps e = traps_user s tty last b came.User refl
 
 -- a call
 pub call_turn : (s new : PlantState) (tty last : ℕ) (b : Bank) (life : Life) → s.in_user ≡ true → s.steps < 2 ^ 32 - 1 → s.traps < 2 ^ 32 - 1 → nat_lt s.slice s.shape.quantum ≡ true
-    → user_step page_space s.bank.regs s.bank.pc (pages_of s.pages) ≡ Call
+    → user_step page_space s.bank.regs s.bank.pc (pages_at s.memory) ≡ Call
     → IsMadeBy (λ u p. called u 1 p (call_number p)) tty s.bank (entered s came.Call) new life
     → unix_of new (kernel_in tty life) ≡ turn_at s.shape.quantum (unix_of s (record { tty = tty; last = last; life = Outside b })) (unix_of s (record { tty = tty; last = last; life = Outside b })).position
 unfolding user_turn stepped step_of call_entered kernel_at
 call_turn s new tty last b life h steps traps e f made =
     made (Outside s.bank) Out tt
-    ∙ ap (λ (u : Unix). called u 1 (process_in Out s.bank (pages_of s.pages)) (call_number (process_in Out s.bank (pages_of s.pages)))) (traps_user s tty last b came.Call refl h steps traps)
+    ∙ ap (λ (u : Unix). called u 1 (process_in Out s.bank (pages_at s.memory)) (call_number (process_in Out s.bank (pages_at s.memory)))) (traps_user s tty last b came.Call refl h steps traps)
     ∙ sym (at_user s.shape.quantum s tty last b h ∙ rw (e, f) refl)
 
 -- a process outside a call ends
-ends_so : (t : PlantState) (tty : ℕ) (b : Bank) (status : ℕ) → unix_of t (kernel_in tty (Ended status)) ≡ ended_as (unix_of t (kernel_in tty (Outside b))) 1 (process_in Out b (pages_of t.pages)) status
+ends_so : (t : PlantState) (tty : ℕ) (b : Bank) (status : ℕ) → unix_of t (kernel_in tty (Ended status)) ≡ ended_as (unix_of t (kernel_in tty (Outside b))) 1 (process_in Out b (pages_at t.memory)) status
 unfolding unix_of ended_as
 ends_so t tty b status = grind (arith, common_steps)
 
 -- a fault
 pub fault_turn : (s : PlantState) (tty last : ℕ) (b : Bank) (fault : Fault) → s.in_user ≡ true → s.steps < 2 ^ 32 - 1 → s.traps < 2 ^ 32 - 1 → nat_lt s.slice s.shape.quantum ≡ true
-    → user_step page_space s.bank.regs s.bank.pc (pages_of s.pages) ≡ Faulted fault
+    → user_step page_space s.bank.regs s.bank.pc (pages_at s.memory) ≡ Faulted fault
     → unix_of (entered s came.User) (kernel_in tty (Ended (0x200 + fault.cause))) ≡ turn_at s.shape.quantum (unix_of s (record { tty = tty; last = last; life = Outside b })) (unix_of s (record { tty = tty; last = last; life = Outside b })).position
 unfolding user_turn stepped step_of kernel_at
 fault_turn s tty last b fault h steps traps e f =
     ends_so (entered s came.User) tty s.bank (0x200 + fault.cause)
-    ∙ ap (λ (u : Unix). ended_as u 1 (process_in Out s.bank (pages_of s.pages)) (0x200 + fault.cause)) (traps_user s tty last b came.User refl h steps traps)
+    ∙ ap (λ (u : Unix). ended_as u 1 (process_in Out s.bank (pages_at s.memory)) (0x200 + fault.cause)) (traps_user s tty last b came.User refl h steps traps)
     ∙ sym (at_user s.shape.quantum s tty last b h ∙ rw (e, f) refl)
 
 -- the process is chosen where it is live
@@ -136,10 +137,10 @@ in_kernel s k h = rw h refl
 
 -- control returns to a process outside a call
 pub settles_outside : (s : PlantState) (tty last : ℕ) (b : Bank) → last ≤ 1 → s.in_user ≡ false
-    → settled (unix_of s (record { tty = tty; last = last; life = Outside b })) ≡ unix_of (returned_to s 1 b) (kernel_in tty (Outside b))
+    → settled (unix_of s (record { tty = tty; last = last; life = Outside b })) ≡ unix_of (returned_to s 1 b root_frame) (kernel_in tty (Outside b))
 unfolding unix_of
 settles_outside s tty last b h k =
-    settles_by (unix_of s (record { tty = tty; last = last; life = Outside b })) 1 (process_in Out b (pages_of s.pages)) (in_kernel s (record { tty = tty; last = last; life = Outside b }) k) (chosen_one s tty last (Outside b) h tt) (rw k refl)
+    settles_by (unix_of s (record { tty = tty; last = last; life = Outside b })) 1 (process_in Out b (pages_at s.memory)) (in_kernel s (record { tty = tty; last = last; life = Outside b }) k) (chosen_one s tty last (Outside b) h tt) (rw k refl)
     ∙ grind (arith, common_steps)
 
 -- one in a call stays in the kernel
@@ -147,7 +148,7 @@ pub settles_writing : (s : PlantState) (tty last : ℕ) (b : Bank) (d : ℕ) →
     → settled (unix_of s (record { tty = tty; last = last; life = Writing b d })) ≡ unix_of s (record { tty = tty; last = last; life = Writing b d })
 unfolding unix_of
 settles_writing s tty last b d h k =
-    settles_by (unix_of s (record { tty = tty; last = last; life = Writing b d })) 1 (process_in (In 2 d) b (pages_of s.pages)) (in_kernel s (record { tty = tty; last = last; life = Writing b d }) k) (chosen_one s tty last (Writing b d) h tt) refl
+    settles_by (unix_of s (record { tty = tty; last = last; life = Writing b d })) 1 (process_in (In 2 d) b (pages_at s.memory)) (in_kernel s (record { tty = tty; last = last; life = Writing b d }) k) (chosen_one s tty last (Writing b d) h tt) refl
 
 -- one in user mode goes on
 pub settles_user : (s : PlantState) (k : Kernel) → s.in_user ≡ true → settled (unix_of s k) ≡ unix_of s k
@@ -159,7 +160,7 @@ at_kernel_by : (q : ℕ) (u : Unix) (p : Process) (number done : ℕ) → chosen
 unfolding turn_at piece_of
 at_kernel_by q u p number done one live call = ap (piece_or_idle u) one ∙ (ap (piece_if_live u 1) live ∙ ap (piece_by u 1 p) call)
 
-one : (s : PlantState) (tty last : ℕ) (b : Bank) (done : ℕ) → (unix_of s (record { tty = tty; last = last; life = Writing b done })).processes 1 ≡ Some (process_in (In 2 done) b (pages_of s.pages))
+one : (s : PlantState) (tty last : ℕ) (b : Bank) (done : ℕ) → (unix_of s (record { tty = tty; last = last; life = Writing b done })).processes 1 ≡ Some (process_in (In 2 done) b (pages_at s.memory))
 unfolding unix_of
 one s tty last b done = refl
 
@@ -171,9 +172,9 @@ traps_kernel s tty last done b h steps traps = rw h (grind (arith, common_steps)
 
 -- the turn of a process in a call
 at_kernel : (q : ℕ) (s : PlantState) (tty last : ℕ) (b : Bank) (done : ℕ) → last ≤ 1
-    → turn_at q (unix_of s (record { tty = tty; last = last; life = Writing b done })) AtKernel ≡ continued (trapped (unix_of s (record { tty = tty; last = last; life = Writing b done })) 1) 1 (process_in (In 2 done) b (pages_of s.pages)) 2 done
+    → turn_at q (unix_of s (record { tty = tty; last = last; life = Writing b done })) AtKernel ≡ continued (trapped (unix_of s (record { tty = tty; last = last; life = Writing b done })) 1) 1 (process_in (In 2 done) b (pages_at s.memory)) 2 done
 at_kernel q s tty last b done h =
-    at_kernel_by q (unix_of s (record { tty = tty; last = last; life = Writing b done })) (process_in (In 2 done) b (pages_of s.pages)) 2 done (chosen_one s tty last (Writing b done) h tt) (one s tty last b done) refl
+    at_kernel_by q (unix_of s (record { tty = tty; last = last; life = Writing b done })) (process_in (In 2 done) b (pages_at s.memory)) 2 done (chosen_one s tty last (Writing b done) h tt) (one s tty last b done) refl
 
 -- a further piece of a write on a descriptor that is open on a terminal
 continues_by : (u : Unix) (p : Process) (tty done : ℕ) → description_of u p (argument p 0) ≡ the_description tty 0 → continued u 1 p 2 done ≡ tty_write u 1 p tty done
@@ -182,13 +183,13 @@ continues_by u p tty done d = ap (piece_on u 1 p done) d
 
 -- a further piece of a write that the process is in
 pub piece_turn : (s new : PlantState) (tty last done : ℕ) (b : Bank) (life : Life) → last ≤ 1 → s.in_user ≡ false → s.steps < 2 ^ 32 - 1 → s.traps < 2 ^ 32 - 1
-    → (description_of (unix_of (entered s came.Kernel) (kernel_in tty (Writing b done))) (process_in (In 2 done) b (pages_of s.pages)) (register b.regs 10) ≡ the_description tty 0)
+    → (description_of (unix_of (entered s came.Kernel) (kernel_in tty (Writing b done))) (process_in (In 2 done) b (pages_at s.memory)) (register b.regs 10) ≡ the_description tty 0)
     → IsMadeBy (λ u p. tty_write u 1 p tty done) tty b (entered s came.Kernel) new life
     → unix_of new (kernel_in tty life) ≡ turn_at s.shape.quantum (unix_of s (record { tty = tty; last = last; life = Writing b done })) AtKernel
 piece_turn s new tty last done b life h k steps traps d made =
     made (Writing b done) (In 2 done) tt
-    ∙ sym (continues_by (unix_of (entered s came.Kernel) (kernel_in tty (Writing b done))) (process_in (In 2 done) b (pages_of s.pages)) tty done d)
-    ∙ ap (λ (u : Unix). continued u 1 (process_in (In 2 done) b (pages_of s.pages)) 2 done) (traps_kernel s tty last done b k steps traps)
+    ∙ sym (continues_by (unix_of (entered s came.Kernel) (kernel_in tty (Writing b done))) (process_in (In 2 done) b (pages_at s.memory)) tty done d)
+    ∙ ap (λ (u : Unix). continued u 1 (process_in (In 2 done) b (pages_at s.memory)) 2 done) (traps_kernel s tty last done b k steps traps)
     ∙ sym (at_kernel s.shape.quantum s tty last b done h)
 
 -- Turn, by the settled state

@@ -1,5 +1,6 @@
 -- The definitions that the program's contracts cite beside those of the crates below.
 pub mod State
+pub mod Boot
 pub mod Top
 pub mod Writing
 pub mod Rows

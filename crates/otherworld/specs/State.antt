@@ -1,9 +1,10 @@
 -- Which state of the Unix a plant and the kernel's own words stand for.
-use Rattle.std.specs.Prelude.{◌≡◌, ℕ, ◌+◌, ◌-◌, ◌*◌, ◌/◌, ◌^◌, ◌<◌, ◌≤◌, true, false, ◌==◌, if◌then◌else◌, List, [], ◌∷◌, ◌++◌, length, replicate, Option, Some, None}
+use Rattle.std.specs.Prelude.{◌≡◌, ℕ, ◌+◌, ◌-◌, ◌*◌, ◌/◌, ◌^◌, ◌<◌, ◌≤◌, Bool, true, false, MatchBool, nat_lt, ◌==◌, if◌then◌else◌, List, [], ◌∷◌, ◌++◌, length, replicate, slice_get, Option, Some, None}
 use Rattle.ow_base.specs.Screen.{screen_of, drawn_all}
 use Rattle.ow_base.specs.Words.{byte_of_words, wrapped, minus}
-use Rattle.ow_base.specs.Pages.{Pages}
-use Rattle.ow_base.specs.UserStep.{register, with_register}
+use Rattle.ow_base.specs.Pages.{Pages, page_space}
+use Rattle.ow_base.specs.Sv32.{pages_by}
+use Rattle.ow_base.specs.UserStep.{Stepped, Next, Call, Faulted, register, with_register, user_step}
 use Rattle.ow_base.specs.Unix.{Unix, Process, CallState, Out, In, Description, OnTty, Terminal, silent_terminal, AtKernel, AtUser, Position, started_descriptors, is_within}
 use Rattle.ow_base.specs.World.{started_page_count}
 use Rattle.ow_base.specs.declared.machine.Bank.{Bank}
@@ -11,12 +12,40 @@ use Rattle.ow_base.specs.declared.machine.Rights.{Rights}
 use Rattle.ow_base.specs.declared.worlds.Load.{Load}
 use Rattle.ow_base.specs.declared.worlds.Program.{Program}
 use Rattle.ow_base.specs.declared.worlds.Start.{Start as Started}
-use Rattle.ow_plant.specs.State.{PlantState, pages_of, tty_of, Terminal as Device}
+use Rattle.phys_memory.specs.Memory.{MemoryParts, words_of, IsSized}
+use Rattle.sv32_tables.specs.Spaces.{Mapping, IsMapped, satp_of}
+use Rattle.ow_plant.specs.State.{PlantState, tty_of, risen, Terminal as Device}
+use Rattle.ow_plant.specs.declared.UserEnd.{UserEnd}
+use Rattle.ow_plant.specs.declared.UserEnd.TheVariants as end
 use Rattle.otherworld.specs.declared.kernel_traps.Life.{Life}
 use Rattle.otherworld.specs.declared.kernel_traps.Life.TheVariants.{Outside, Writing, Ended}
 use Rattle.otherworld.specs.declared.kernel_traps.Kernel.{Kernel}
 use Rattle.otherworld.specs.declared.kernel_traps.Errno.{Errno}
 use Rattle.otherworld.specs.declared.kernel_traps.Errno.TheVariants.{BadDescriptor, BadAddress, Invalid, NoCall}
+
+-- the frames of the root table of the process, of its two other tables, and of its first page: they are in the
+-- first half of memory, the tables in the area and the pages behind the cache frames
+abbrev pub root_frame : ℕ
+root_frame = 17
+
+abbrev pub low_frame : ℕ
+low_frame = 18
+
+abbrev pub high_frame : ℕ
+high_frame = 19
+
+abbrev pub first_page_frame : ℕ
+first_page_frame = 129
+
+-- the pages that the process has by its tables
+unfoldable pub pages_at : MemoryParts → Pages
+pages_at memory = pages_by (words_of memory) (satp_of root_frame)
+
+-- memory has its size, and the tables of the process lead each page to a frame of its own
+pub record HasPages (user_frames : ℕ) (memory : MemoryParts) : Type 0 where
+  pub sized : IsSized user_frames memory
+  pub map : ℕ → Option Mapping
+  pub mapped : IsMapped (words_of memory) root_frame map
 
 -- what stands at pid 1 alone
 abbrev pub only : {V : Type 0} → Option V → (pid : ℕ) → Option V
@@ -40,8 +69,8 @@ process_in call bank pages = record {
 
 -- the process, if it is live; in user mode the plant has its bank
 abbrev pub process_of : PlantState → Life → Option Process
-process_of s (Outside bank) = Some (process_in Out (if s.in_user then s.bank else bank) (pages_of s.pages))
-process_of s (Writing bank done) = Some (process_in (In 2 done) bank (pages_of s.pages))
+process_of s (Outside bank) = Some (process_in Out (if s.in_user then s.bank else bank) (pages_at s.memory))
+process_of s (Writing bank done) = Some (process_in (In 2 done) bank (pages_at s.memory))
 process_of s (Ended status) = None
 
 abbrev pub exit_of : Life → Option ℕ
@@ -101,10 +130,6 @@ pub record IsTerminalSound (t : Device) (steps budget : ℕ) : Type 0 where
   pub few : length t.tape ≤ 16 * steps
   pub room : t.room ≡ 16 * budget
 
--- no page lies past the last address
-abbrev pub IsWithinMemory : Pages → Type 0
-IsWithinMemory pages = (page : ℕ) → 2 ^ 20 ≤ page → pages.rights page ≡ None
-
 -- bytes go to the end of a tape and are drawn, one after the other
 abbrev pub puts_on : Device → (bytes : List ℕ) → Device
 puts_on t bytes = record t { tape = t.tape ++ bytes; display = drawn_all t.display bytes }
@@ -138,7 +163,7 @@ written_life bank done count = if done == count then answered_life bank count el
 -- had the process before
 abbrev pub IsMadeBy : (Unix → Process → Unix) → (tty : ℕ) → Bank → (old new : PlantState) → Life → Type 0
 IsMadeBy operation tty bank old new life = (o : Life) (call : CallState) → IsLive o →
-    unix_of new (kernel_in tty life) ≡ operation (unix_of old (kernel_in tty o)) (process_in call bank (pages_of old.pages))
+    unix_of new (kernel_in tty life) ≡ operation (unix_of old (kernel_in tty o)) (process_in call bank (pages_at old.memory))
 
 -- in a service the plant takes at most 16 bytes on the process's terminal, and what becomes of the process is sound
 pub record IsServed (tty : ℕ) (old new : PlantState) (life : Life) : Type 0 where
@@ -152,7 +177,7 @@ pub record IsInService (s : PlantState) (tty : ℕ) : Type 0 where
   pub armed : s.armed ≡ true
   pub in_kernel : s.in_user ≡ false
   pub which : tty < 2
-  pub within : IsWithinMemory (pages_of s.pages)
+  pub pages : HasPages s.shape.user_frames s.memory
   pub room : length (tty_of s tty).tape + 16 ≤ (tty_of s tty).room
 
 -- between turns
@@ -161,13 +186,30 @@ pub record IsSound (s : PlantState) (k : Kernel) : Type 0 where
   pub tty : k.tty < 2
   pub last : k.last ≤ 1
   pub life : IsLifeSound s k.life
-  pub within : IsWithinMemory (pages_of s.pages)
+  pub pages : HasPages s.shape.user_frames s.memory
+  -- in user mode its tables are those in use
+  pub in_use : s.in_user ≡ true → s.satp ≡ satp_of root_frame
   pub budget : s.steps ≤ s.shape.budget
   pub small : s.shape.budget ≤ 2000000
   pub few_traps : s.traps ≤ s.steps
   pub tty0 : IsTerminalSound s.tty0 s.steps s.shape.budget
   pub tty1 : IsTerminalSound s.tty1 s.steps s.shape.budget
   pub no_history : s.history ≡ []
+
+-- an instruction of the process in user mode, which UserStep on its pages says came to this
+abbrev pub StepsOn : PlantState → PlantState → UserEnd → Stepped Pages → Type 0
+StepsOn old new result (Next regs pc pages) = (result ≡ end.Next)
+    × (pages_at new.memory ≡ pages)
+    × HasPages old.shape.user_frames new.memory
+    × (new ≡ record old { memory = new.memory; bank = record { pc = pc; regs = regs }; slice = old.slice + 1; steps = risen old.steps })
+StepsOn old new result Call = (result ≡ end.Call) × (new ≡ old)
+StepsOn old new result (Faulted fault) = (result ≡ end.Fault fault) × (new ≡ old)
+
+-- a turn of the process in user mode, on its pages: the slice is over after quantum instructions, else one is made
+abbrev pub TakesTurn : PlantState → PlantState → UserEnd → Type 0
+TakesTurn old new result = MatchBool (nat_lt old.slice old.shape.quantum)
+    (StepsOn old new result (user_step page_space old.bank.regs old.bank.pc (pages_at old.memory)))
+    ((result ≡ end.Slice) × (new ≡ old))
 
 -- a turn of a sound state leaves a sound one of the same machine
 pub record IsTurned (old new : PlantState) (m : Kernel) : Type 0 where
@@ -190,18 +232,10 @@ pub record IsRunOver (new : PlantState) : Type 0 where
   pub shown1 : new.tty1.display ≡ screen_of new.tty1.tape
   pub no_history : new.history ≡ []
 
--- so many pages from a first one on hold these words, 0 behind the last word; the others are as they were
-unfoldable pub with_words : Pages → (first count : ℕ) → Rights → (words : List ℕ) → Pages
-with_words pages first count rights words = record {
-  rights = λ page. if is_within first count page then Some rights else pages.rights page;
-  bytes = λ a. if is_within first count (a / 4096) then byte_of_words words (a - 4096 * first) else pages.bytes a;
-}
-
--- a load of one program that is started once, and whose pages fit
+-- a load of one start, and the program that it names, whose pages fit
 pub record IsBuilt (load : Load) (program : Program) (start : Started) : Type 0 where
-  pub programs : load.programs ≡ program ∷ []
   pub starts : load.starts ≡ start ∷ []
-  pub named : start.program ≡ 0
+  pub named : slice_get load.programs start.program ≡ Some program
   pub tty : start.tty < 2
   pub short_code : length program.code ≤ 65536
   pub short_values : length program.values ≤ 65536

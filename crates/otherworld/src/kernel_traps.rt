@@ -1,21 +1,28 @@
-ghost use Rattle.std.specs.Prelude.{◌≡◌, ℕ, ◌+◌, ◌^◌, ◌<◌, ◌≤◌, true, false, length, IsOk, IfOk, IfSome, IsNone};
+ghost use Rattle.std.specs.Prelude.{◌≡◌, ℕ, ◌+◌, ◌^◌, ◌<◌, ◌≤◌, true, false, None, ◌↔◌, length, IsOk, IfOk, IfSome, IsNone};
 ghost use Rattle.ow_base.specs.Pages.{is_readable, bytes_at};
 ghost use Rattle.ow_base.specs.Words.{minus};
 ghost use Rattle.ow_base.specs.Unix.{AtKernel};
 ghost use Rattle.ow_base.specs.Calls.{tty_write, write_entry as write_entered, called, call_number};
 ghost use Rattle.ow_base.specs.Turn.{turn, turn_at, closed};
-ghost use Rattle.ow_plant.specs.State.{entered, pages_of, tty_of};
-ghost use Rattle.otherworld.specs.State.{with_puts, unix_of, kernel_in, IsWithinMemory, IsServed, IsInService, IsWriting, IsMadeBy, answered_life, stopped_life, written_life, number_of, IsSound, IsTurned, IsLive, IsClosed};
+ghost use Rattle.ow_base.specs.Pages.{rights_at};
+ghost use Rattle.ow_plant.specs.State.{entered, tty_of};
+ghost use Rattle.sv32_tables.specs.Spaces.{satp_of};
+ghost use Rattle.otherworld.specs.State.{root_frame, pages_at, HasPages, TakesTurn, with_puts, unix_of, kernel_in, IsServed, IsInService, IsWriting, IsMadeBy, answered_life, stopped_life, written_life, number_of, IsSound, IsTurned, IsLive, IsClosed};
 
+use crate::boot::ROOT_FRAME;
 use arrayvec::ArrayVec;
 use ow_base::Bank;
 use ow_plant::{Came, Panicked, Plant, UserEnd};
+use sv32_tables::{Access, walk};
 
 /// The pid of the one process.
 pub const PID: u32 = 1;
 
 /// The pid of a trap that is of no process.
 const NO_PID: u32 = 0;
+
+/// MODE of the register satp that turns Sv32 on (RISC-V manual, volume II).
+const SV32: u32 = 1 << 31;
 
 /// The most bytes that one piece of a write on a terminal has.
 const PIECE: u32 = 16;
@@ -91,22 +98,39 @@ impl Kernel {
     }
 }
 
+/// The byte of the process at an address; None exactly where it has no page.
+#[tactic(auto, unfolding(phys_memory::specs::Memory::words_of))]
+fn user_byte(plant: &Plant, address: u32) -> Option<u8>
+    requires armed { plant.now.armed ≡ true }
+    requires pages { HasPages plant.now.shape.user_frames plant.now.memory }
+    ensures none { IsNone result ↔ (rights_at (pages_at plant.now.memory) address ≡ None) }
+    ensures some { IfSome result (λ b. b ≡ (pages_at plant.now.memory).bytes address) }
+{
+    match walk(plant, SV32 + ROOT_FRAME, address, Access::Load) {
+        Ok(place) => {
+            let word = plant.load(place.frame, place.offset / 4);
+            Some(word.to_le_bytes()[place.offset as usize % 4])
+        }
+        Err(_) => None,
+    }
+}
+
 /// The bytes of a process from an address on, at most 16; None exactly where one of them lies in no page.
 fn piece_bytes(plant: &Plant, address: u64, length: u32) -> Option<ArrayVec<u8, 16>>
     requires armed { plant.now.armed ≡ true }
-    requires within { IsWithinMemory (pages_of plant.now.pages) }
+    requires pages { HasPages plant.now.shape.user_frames plant.now.memory }
     requires most { length ≤ 16 }
     requires fits { address + 16 < 2 ^ 64 }
-    ensures none { IsNone result → is_readable (pages_of plant.now.pages) address length ≡ false }
-    ensures readable { IfSome result (λ _. is_readable (pages_of plant.now.pages) address length ≡ true) }
-    ensures some { IfSome result (λ bytes. bytes.items ≡ bytes_at (pages_of plant.now.pages) address length) }
+    ensures none { IsNone result → is_readable (pages_at plant.now.memory) address length ≡ false }
+    ensures readable { IfSome result (λ _. is_readable (pages_at plant.now.memory) address length ≡ true) }
+    ensures some { IfSome result (λ bytes. bytes.items ≡ bytes_at (pages_at plant.now.memory) address length) }
 {
     let mut bytes = ArrayVec::new();
     for offset in 0..length {
         let Ok(place) = u32::try_from(address + u64::from(offset)) else {
             return None;
         };
-        let Some(byte) = plant.user_byte(place) else {
+        let Some(byte) = user_byte(plant, place) else {
             return None;
         };
         bytes.push(byte);
@@ -222,6 +246,17 @@ fn begin_trap(plant: &mut Plant, kernel: &mut Kernel, came: Came)
     kernel.life = Life::Outside(*plant.bank());
 }
 
+/// A turn of the process in user mode on the plant, as its pages show it.
+fn user_step(plant: &mut Plant) -> UserEnd
+    requires armed { plant.old.armed ≡ true }
+    requires in_user { plant.old.in_user ≡ true }
+    requires pages { HasPages plant.old.shape.user_frames plant.old.memory }
+    requires in_use { plant.old.satp ≡ satp_of root_frame }
+    ensures { TakesTurn plant.old plant.new result }
+{
+    plant.user_step()
+}
+
 /// A turn of the process in user mode: an instruction, or the trap of its call, its fault or the end of
 /// its slice.
 fn user_turn(plant: &mut Plant, kernel: &mut Kernel) -> Result<(), Panicked>
@@ -232,7 +267,7 @@ fn user_turn(plant: &mut Plant, kernel: &mut Kernel) -> Result<(), Panicked>
     ensures turn { unix_of plant.new kernel.new ≡ turn_at plant.old.shape.quantum (unix_of plant.old kernel.old) (unix_of plant.old kernel.old).position }
     ensures turned { IsTurned plant.old plant.new kernel.new }
 {
-    match plant.user_step() {
+    match user_step(plant) {
         UserEnd::Next => Ok(()),
         UserEnd::Slice => {
             begin_trap(plant, kernel, Came::User);
@@ -286,7 +321,7 @@ pub fn serve_trap(plant: &mut Plant, kernel: &mut Kernel) -> Result<(), Panicked
     }
     match &kernel.life {
         Life::Outside(bank) => {
-            plant.to_user(PID, bank, 0);
+            plant.to_user(PID, bank, ROOT_FRAME);
             kernel.last = PID;
             user_turn(plant, kernel)
         }

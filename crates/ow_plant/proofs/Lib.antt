@@ -1,2 +1,3 @@
--- Lemmas of the plant.
+-- Lemmas of the plant: its displays, and programs on their page tables.
 pub mod Rows
+pub mod Programs

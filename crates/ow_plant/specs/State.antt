@@ -3,6 +3,7 @@ use Rattle.std.specs.Prelude.{◌≡◌, ℕ, ◌+◌, ◌-◌, ◌*◌, ◌/◌
 use Rattle.ow_base.specs.Screen.{Screen, blank_screen, drawn}
 use Rattle.ow_base.specs.Sv32.{sv32_space}
 use Rattle.ow_base.specs.UserStep.{Spaces, Stepped, Next, Call, Faulted, user_step}
+use Rattle.sv32_tables.specs.Spaces.{satp_of}
 use Rattle.phys_memory.specs.Memory.{MemoryParts, words_of, with_word, zeroed}
 use Rattle.ow_base.specs.declared.machine.Bank.{Bank}
 use Rattle.ow_base.specs.declared.machine.Shape.{Shape}
@@ -83,10 +84,6 @@ entered s came.Closing = record s { in_user = false; traps = risen s.traps }
 entered s came.Kernel = record s { in_user = false; traps = risen s.traps; steps = risen s.steps }
 entered s came.User = record s { in_user = false; traps = risen s.traps; steps = risen s.steps }
 entered s came.Call = record s { in_user = false; traps = risen s.traps; steps = risen s.steps }
-
--- satp for page tables whose root is in this frame: MODE is 1, which is Sv32
-abbrev pub satp_of : (root : ℕ) → ℕ
-satp_of root = 2 ^ 31 + root
 
 -- control goes to a process: its bank is loaded, its page tables are in use, and a slice begins
 abbrev pub returned_to : PlantState → (pid : ℕ) → Bank → (root : ℕ) → PlantState

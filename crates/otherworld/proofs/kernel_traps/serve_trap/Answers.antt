@@ -6,7 +6,7 @@ use Rattle.ow_plant.specs.State.{returned_to}
 use Rattle.otherworld.specs.declared.kernel_traps.Kernel.{Kernel}
 use Rattle.otherworld.specs.declared.kernel_traps.Life.{Life}
 use Rattle.otherworld.specs.declared.kernel_traps.Life.TheVariants.{Outside, Writing}
-use Rattle.otherworld.specs.State.{unix_of, kernel_in}
+use Rattle.otherworld.specs.State.{root_frame, unix_of, kernel_in}
 use Rattle.otherworld.proofs.Turns.{turn_settled, settles_user, settles_outside, settles_writing, in_kernel_at}
 use Rattle.otherworld.proofs.kernel_traps.serve_trap.Goals as goal
 
@@ -22,9 +22,9 @@ returns-in-Outside-clause-turn c =
     let b = c.in-Outside.bank in
     let idle : s.in_user ≡ false = sym c.in_user.ensures ∙ c.if-in_user.false in
     let kernel : k ≡ record { tty = k.tty; last = k.last; life = Outside b } = ap (λ (l : Life). record { tty = k.tty; last = k.last; life = l }) c.in-Outside.is in
-    let settle : settled (unix_of s k) ≡ unix_of (returned_to s 1 b) (kernel_in k.tty (Outside b)) = ap (λ (m : Kernel). settled (unix_of s m)) kernel ∙ settles_outside s k.tty k.last b c.requires.sound.last idle in
+    let settle : settled (unix_of s k) ≡ unix_of (returned_to s 1 b root_frame) (kernel_in k.tty (Outside b)) = ap (λ (m : Kernel). settled (unix_of s m)) kernel ∙ settles_outside s k.tty k.last b c.requires.sound.last idle in
     let turned = rw (c.to_user.ensures, c.in-Outside.is) at c.user_turn-in-Outside.ensures.turn in
-    turned ∙ sym (turn_settled s.shape (unix_of s k) (unix_of (returned_to s 1 b) (kernel_in k.tty (Outside b))) settle)
+    turned ∙ sym (turn_settled s.shape (unix_of s k) (unix_of (returned_to s 1 b root_frame) (kernel_in k.tty (Outside b))) settle)
 
 pub returns-in-Writing-clause-turn : goal.returns-in-Writing-clause-turn
 returns-in-Writing-clause-turn c =

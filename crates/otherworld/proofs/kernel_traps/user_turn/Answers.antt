@@ -12,24 +12,24 @@ use Rattle.otherworld.proofs.kernel_traps.user_turn.Goals as goal
 
 pub overflow_add-kernel : goal.overflow_add-kernel
 overflow_add-kernel c =
-    let small = small_cause c.args.plant.now c.user_step.new.self c.in-Fault.fault c.in-Fault.ensures in
+    let small = small_cause c.args.plant.now c.user_step.new.plant c.in-Fault.fault c.in-Fault.ensures in
     omega (arith, small)
 
 pub returns-in-Next-clause-turn : goal.returns-in-Next-clause-turn
 returns-in-Next-clause-turn c =
     let s = c.args.plant.now in
-    let new = c.user_step.new.self in
+    let new = c.user_step.new.plant in
     let few : s.steps < 2 ^ 32 - 1 = omega (arith, c.requires.sound.small) in
     by_outside (λ (k : Kernel). unix_of new k ≡ turn_at s.shape.quantum (unix_of s k) (unix_of s k).position) s c.args.kernel.now c.requires.in_user c.requires.sound.life
     (λ tty last b. next_turn s new tty last b c.requires.in_user few c.in-Next.ensures)
 
 pub returns-in-Next-clause-turned : goal.returns-in-Next-clause-turned
-returns-in-Next-clause-turned c = next_sound c.args.plant.now c.user_step.new.self c.args.kernel.now c.requires.sound c.requires.budget c.in-Next.ensures
+returns-in-Next-clause-turned c = next_sound c.args.plant.now c.user_step.new.plant c.args.kernel.now c.requires.sound c.requires.budget c.in-Next.ensures
 
 pub returns-in-Slice-clause-turn : goal.returns-in-Slice-clause-turn
 returns-in-Slice-clause-turn c =
     let s = c.args.plant.now in
-    let kept = slice_taken s c.user_step.new.self c.in-Slice.ensures in
+    let kept = slice_taken s c.user_step.new.plant c.in-Slice.ensures in
     let plant : c.leave.new.self ≡ entered s came.User = c.leave.ensures.same ∙ (c.begin_trap.ensures.plant ∙ ap (λ (t : PlantState). entered t came.User) kept.1) in
     let kernel : c.begin_trap.new.kernel ≡ kernel_in c.args.kernel.now.tty (Outside s.bank) = c.begin_trap.ensures.kernel ∙ ap (λ (t : PlantState). kernel_in c.args.kernel.now.tty (Outside t.bank)) kept.1 in
     let few : s.steps < 2 ^ 32 - 1 = omega (arith, c.requires.sound.small) in
@@ -41,7 +41,7 @@ pub returns-in_ok-kernel-in-Call-clause-turn : goal.returns-in_ok-kernel-in-Call
 returns-in_ok-kernel-in-Call-clause-turn c =
     let s = c.args.plant.now in
     let life = c.in_ok-kernel-in-Call.field-0 in
-    let kept = call_taken s c.user_step.new.self c.in-Call.ensures in
+    let kept = call_taken s c.user_step.new.plant c.in-Call.ensures in
     let plant : c.begin_trap-in-Call.new.plant ≡ entered s came.Call = c.begin_trap-in-Call.ensures.plant ∙ ap (λ (t : PlantState). entered t came.Call) kept.2 in
     let kernel : c.begin_trap-in-Call.new.kernel ≡ kernel_in c.args.kernel.now.tty (Outside s.bank) = c.begin_trap-in-Call.ensures.kernel ∙ ap (λ (t : PlantState). kernel_in c.args.kernel.now.tty (Outside t.bank)) kept.2 in
     let tty : c.begin_trap-in-Call.new.kernel.tty ≡ c.args.kernel.now.tty = ap (λ (k : Kernel). k.tty) kernel in
@@ -57,7 +57,7 @@ pub returns-in_ok-kernel-in-Call-clause-turned : goal.returns-in_ok-kernel-in-Ca
 returns-in_ok-kernel-in-Call-clause-turned c =
     let s = c.args.plant.now in
     let life = c.in_ok-kernel-in-Call.field-0 in
-    let kept = call_taken s c.user_step.new.self c.in-Call.ensures in
+    let kept = call_taken s c.user_step.new.plant c.in-Call.ensures in
     let plant : c.begin_trap-in-Call.new.plant ≡ entered s came.Call = c.begin_trap-in-Call.ensures.plant ∙ ap (λ (t : PlantState). entered t came.Call) kept.2 in
     let kernel : c.begin_trap-in-Call.new.kernel ≡ kernel_in c.args.kernel.now.tty (Outside s.bank) = c.begin_trap-in-Call.ensures.kernel ∙ ap (λ (t : PlantState). kernel_in c.args.kernel.now.tty (Outside t.bank)) kept.2 in
     let tty : c.begin_trap-in-Call.new.kernel.tty ≡ c.args.kernel.now.tty = ap (λ (k : Kernel). k.tty) kernel in
@@ -68,7 +68,7 @@ returns-in_ok-kernel-in-Call-clause-turned c =
 pub returns-in-Fault-clause-turn : goal.returns-in-Fault-clause-turn
 returns-in-Fault-clause-turn c =
     let s = c.args.plant.now in
-    let kept = fault_taken s c.user_step.new.self c.in-Fault.fault c.in-Fault.ensures in
+    let kept = fault_taken s c.user_step.new.plant c.in-Fault.fault c.in-Fault.ensures in
     let plant : c.leave-in-Fault.new.self ≡ entered s came.User = c.leave-in-Fault.ensures.same ∙ (c.begin_trap-in-Fault.ensures.plant ∙ ap (λ (t : PlantState). entered t came.User) kept.2) in
     let kernel = c.begin_trap-in-Fault.ensures.kernel in
     let tty : c.begin_trap-in-Fault.new.kernel.tty ≡ c.args.kernel.now.tty = ap (λ (k : Kernel). k.tty) kernel in
