@@ -1,5 +1,5 @@
 -- A program whose page tables map each page to a frame of its own steps as on its pages.
-use Rattle.std.proofs.Common.{◌≡◌, ◌≢◌, ℕ, ◌+◌, ◌-◌, ◌*◌, ◌/◌, ◌%◌, ◌^◌, ◌<◌, ◌≤◌, ◌==◌, ◌&&◌, ◌⊎◌, nat_lt, Bool, true, false, List, Option, Some, None, Result, Ok, Err, refl, sym, ap, ◌∙◌, inl, inr, if◌then◌else◌, arith}
+use Rattle.std.proofs.Common.{◌≡◌, ◌≢◌, ℕ, ◌+◌, ◌*◌, ◌/◌, ◌%◌, ◌^◌, ◌<◌, ◌≤◌, ◌==◌, ◌&&◌, ◌⊎◌, nat_lt, Bool, true, false, List, Option, Some, None, Ok, refl, sym, ap, ◌∙◌, inl, inr, if◌then◌else◌, arith}
 use Rattle.std.proofs.Math.Path.{fun_ext}
 use Rattle.std.proofs.lemmas.Bool.{cases_eq, cases_lt}
 use Rattle.std.proofs.lemmas.Bool.Decides.{nat_tests}
@@ -14,7 +14,7 @@ use Rattle.ow_base.specs.declared.machine.Width.TheVariants.{Byte, Half, Word}
 use Rattle.ow_base.specs.declared.machine.Rights.{Rights}
 use Rattle.ow_base.specs.declared.machine.Rights.TheVariants.{Code, Values}
 use Rattle.ow_base.proofs.Simulations.{FollowsStore, Alike, Follows, follows}
-use Rattle.sv32_tables.specs.Entries.{leaf_word, pointer_word, granted}
+use Rattle.sv32_tables.specs.Entries.{pointer_word}
 use Rattle.sv32_tables.proofs.Bytes.{byte_of-overwritten, value_of-bytes, shifted, outside}
 use Rattle.sv32_tables.proofs.Entries.{leaf_read_back, pointer_read_back, none_mapped}
 use Rattle.sv32_tables.specs.Spaces.{Mapping, entry_of, mapped, rights_in, byte_in, pages_in, satp_of, IsMapped}
@@ -112,9 +112,9 @@ module _ {words : WordMap} {root : ℕ} {map : ℕ → Option Mapping} (is : IsM
   rights_same page =
       both (nat_lt page (2 ^ 20)) _ _ _
       (λ in_reach.
-        let small : 4096 * page < 2 ^ 32 = grind (arith, nat_tests) in
-        let number : 4096 * page / 4096 ≡ page = omega arith in
-        rw (translated-mapped (4096 * page) Load small, translated-mapped (4096 * page) Store small, number) (rights_told (map page) (4096 * page)))
+      let small : 4096 * page < 2 ^ 32 = grind (arith, nat_tests) in
+      let number : 4096 * page / 4096 ≡ page = omega arith in
+      rw (translated-mapped (4096 * page) Load small, translated-mapped (4096 * page) Store small, number) (rights_told (map page) (4096 * page)))
       (λ out. let high : 524288 ≤ page = grind (arith, nat_tests) in sym (ap rights_in (is.behind page high)))
 
   bytes_same : (a : ℕ) → (pages_by words (satp_of root)).bytes a ≡ byte_in words (a % 4096) (map (a / 4096))
@@ -122,11 +122,11 @@ module _ {words : WordMap} {root : ℕ} {map : ℕ → Option Mapping} (is : IsM
   bytes_same a =
       both (nat_lt a (2 ^ 32)) _ _ _
       (λ in_reach.
-        let small : a < 2 ^ 32 = grind (arith, nat_tests) in
-        rw (translated-mapped a Load small) (byte_told words (map (a / 4096)) a))
+      let small : a < 2 ^ 32 = grind (arith, nat_tests) in
+      rw (translated-mapped a Load small) (byte_told words (map (a / 4096)) a))
       (λ out.
-        let high : 2 ^ 32 ≤ a = grind (arith, nat_tests) in
-        sym (ap (byte_in words (a % 4096)) (is.behind (a / 4096) (omega arith))))
+      let high : 2 ^ 32 ≤ a = grind (arith, nat_tests) in
+      sym (ap (byte_in words (a % 4096)) (is.behind (a / 4096) (omega arith))))
 
   -- the pages that a program has by its tables are those of the map
   pub pages_by-mapped : pages_by words (satp_of root) ≡ pages_in map words
@@ -179,7 +179,7 @@ module _ (words : WordMap) (map : ℕ → Option Mapping) where
   value_read m a width e aligned =
       let word : ℕ = word_or_zero (words m.frame (a % 4096 / 4)) in
       sym (value_of-bytes (pages_in map words).bytes word a (a % 4096 % 4) width (omega arith) (in_word a width aligned)
-        (λ b j near fits. byte_of_page words map m a b e (omega arith) ∙ ap (byte_of word) (omega arith)))
+      (λ b j near fits. byte_of_page words map m a b e (omega arith) ∙ ap (byte_of word) (omega arith)))
 
   fetched_by : (m : Mapping) (a : ℕ) (rights : Rights) → m.rights ≡ rights → map (a / 4096) ≡ Some m → a % 4 ≡ 0
       → read_at words Fetch Word a (mapped (Some m) a Fetch) ≡ fetched_from (pages_in map words).bytes a (Some m.rights)
@@ -207,12 +207,12 @@ module _ {words : WordMap} {root : ℕ} {map : ℕ → Option Mapping} (is : IsM
   same_word written b near =
       let word : ℕ = word_or_zero (words m.frame (a % 4096 / 4)) in
       let here : changed m.frame (a % 4096 / 4) ≡ Some (overwritten word (a % 4096 % 4) width value) =
-          written.set m.frame (a % 4096 / 4) ∙ grind (arith, nat_tests) in
+      written.set m.frame (a % 4096 / 4) ∙ grind (arith, nat_tests) in
       byte_of_page changed map m a b written.page near
       ∙ ap (λ o. byte_of (word_or_zero o) (b % 4)) here
       ∙ byte_of-overwritten word (a % 4096 % 4) (b % 4) width value (omega arith) (omega arith) (in_word a width written.aligned)
       ∙ shifted (byte_of word) (pages_in map words).bytes (4 * (a / 4)) (a % 4096 % 4) (b % 4) a b width value (omega arith) (omega arith)
-        (sym (byte_of_page words map m a b written.page near))
+      (sym (byte_of_page words map m a b written.page near))
 
   untouched : IsWritten → (b : ℕ) (o : Option Mapping) → b / 4 ≢ a / 4 → map (b / 4096) ≡ o → byte_in changed (b % 4096) o ≡ byte_in words (b % 4096) o
   untouched written b None apart e = refl
@@ -258,14 +258,18 @@ module _ {Image : Type 0} (words : Image → WordMap) (satp : Image → ℕ) (wi
         let after : Image = with_word image m.frame place new in
         let old = is.tables.whole (a / 4096) m e place (omega arith) in
         let set : (f w : ℕ) → words after f w ≡ (if (f == m.frame) && (w == place) then Some new else words image f w) =
-            λ f w. sets.set image m.frame place new f w is.fits old.0 old.1 (omega arith) in
+        λ f w. sets.set image m.frame place new f w is.fits old.0 old.1 (omega arith) in
         let written : IsWritten is.tables (words after) m a width value = record { page = e; aligned = aligned; set = set } in
-        rw r (record { rights = pages.rights; bytes = with_value pages.bytes a width value }, refl, record {
-          fits = sets.kept image m.frame place new is.fits;
-          tables = IsMapped-set is.tables (words after) (a / 4096) m place new e set;
-          on = sets.same_satp image m.frame place new ∙ is.on;
-          holds = rw is.holds (pages_in-written is.tables (words after) m a width value written);
-        })
+        rw r (
+          record { rights = pages.rights; bytes = with_value pages.bytes a width value },
+          refl,
+          record {
+            fits = sets.kept image m.frame place new is.fits;
+            tables = IsMapped-set is.tables (words after) (a / 4096) m place new e set;
+            on = sets.same_satp image m.frame place new ∙ is.on;
+            holds = rw is.holds (pages_in-written is.tables (words after) m a width value written);
+          },
+        )
 
     stored_alike : SetsWords → (image : Image) (pages : Pages) (a : ℕ) (width : Width) (value : ℕ) (o : Option Mapping)
         → IsSpaceOf root map image pages → map (a / 4096) ≡ o → a % size_of width ≡ 0
@@ -289,7 +293,7 @@ module _ {Image : Type 0} (words : Image → WordMap) (satp : Image → ℕ) (wi
     -- so a step of the program on its page tables is a step on its pages, and the tables stay as they are
     pub steps_follow : SetsWords → (image : Image) (regs : List ℕ) (pc : ℕ) → Fits image → IsMapped (words image) root map → satp image ≡ satp_of root → pc < 2 ^ 32
         → Follows (IsSpaceOf root map) (sv32_space words satp with_word) page_space
-          (user_step (sv32_space words satp with_word) regs pc image) (user_step page_space regs pc (pages_by (words image) (satp image)))
+        (user_step (sv32_space words satp with_word) regs pc image) (user_step page_space regs pc (pages_by (words image) (satp image)))
     steps_follow sets image regs pc fits tables on small =
         let is : IsSpaceOf root map image (pages_by (words image) (satp image)) = record {
           fits = fits;
