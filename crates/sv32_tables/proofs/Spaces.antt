@@ -19,7 +19,7 @@ use Rattle.sv32_tables.proofs.Bytes.{byte_of-overwritten, value_of-bytes, shifte
 use Rattle.sv32_tables.proofs.Entries.{leaf_read_back, pointer_read_back, none_mapped}
 use Rattle.sv32_tables.specs.Spaces.{Mapping, entry_of, mapped, rights_in, byte_in, pages_in, satp_of, IsMapped, IsWritable}
 
-pages_ext : (p q : Pages) → ((page : ℕ) → p.rights page ≡ q.rights page) → ((a : ℕ) → p.bytes a ≡ q.bytes a) → p ≡ q
+pub pages_ext : (p q : Pages) → ((page : ℕ) → p.rights page ≡ q.rights page) → ((a : ℕ) → p.bytes a ≡ q.bytes a) → p ≡ q
 pages_ext p q rights bytes =
     let with_rights : (ℕ → Option Rights) → Pages = λ r. record { rights = r; bytes = p.bytes } in
     let with_bytes : (ℕ → ℕ) → Pages = λ b. record { rights = q.rights; bytes = b } in
@@ -44,7 +44,7 @@ byte_told words None a = refl
 byte_told words (Some m) a = refl
 
 -- a place that is not the one that is set
-elsewhere : (f w frame place : ℕ) (new old : Option ℕ) → (f ≢ frame) ⊎ (w ≢ place) → (if (f == frame) && (w == place) then new else old) ≡ old
+pub elsewhere : (f w frame place : ℕ) (new old : Option ℕ) → (f ≢ frame) ⊎ (w ≢ place) → (if (f == frame) && (w == place) then new else old) ≡ old
 elsewhere f w frame place new old apart = grind (arith, nat_tests)
 
 -- where there was a word there is one after a word is set
