@@ -6,7 +6,7 @@ use Rattle.std.proofs.lemmas.Bool.Decides.{nat_tests}
 use Rattle.ow_base.specs.Pages.{Pages, page_space, value_at, with_value, fetched_from, loaded_from, stored_in}
 use Rattle.ow_base.specs.Sv32.{WordMap, by_last, by_first, translated, rights_by, byte_by, pages_by, byte_of, word_or_zero, overwritten, value_of, read_at, written_at, sv32_space}
 use Rattle.ow_base.specs.Words.{bits}
-use Rattle.ow_base.specs.UserStep.{user_step, size_of}
+use Rattle.ow_base.specs.UserStep.{Stepped, Next, Call, Faulted, user_step, size_of}
 use Rattle.ow_base.specs.declared.machine.Access.{Access}
 use Rattle.ow_base.specs.declared.machine.Access.TheVariants.{Fetch, Load, Store}
 use Rattle.ow_base.specs.declared.machine.Width.{Width}
@@ -252,6 +252,21 @@ module _ {Image : Type 0} (words : Image → WordMap) (satp : Image → ℕ) (wi
         → Fits (with_word image frame place value)
     pub same_satp : (image : Image) (frame place value : ℕ) → satp (with_word image frame place value) ≡ satp image
 
+  -- what a step came to, with the pages that the program has by its tables in place of memory
+  abbrev pub on_pages : Stepped Image → Stepped Pages
+  on_pages (Next regs pc image) = Next regs pc (pages_by (words image) (satp image))
+  on_pages Call = Call
+  on_pages (Faulted fault) = Faulted fault
+
+  -- the pages are those that the program has by its tables
+  pub pages_of_space : (root : ℕ) (map : ℕ → Option Mapping) (image : Image) (pages : Pages) → IsSpaceOf root map image pages → pages_by (words image) (satp image) ≡ pages
+  pages_of_space root map image pages is = ap (pages_by (words image)) is.on ∙ pages_by-mapped is.tables ∙ sym is.holds
+
+  told : (root : ℕ) (map : ℕ → Option Mapping) (step : Stepped Image) (s : Stepped Pages) → Follows (IsSpaceOf root map) (sv32_space words satp with_word) page_space step s → on_pages step ≡ s
+  told root map (Next regs pc image) s goes = ap (Next regs pc) (pages_of_space root map image goes.0 goes.2) ∙ sym goes.1
+  told root map Call s goes = sym goes
+  told root map (Faulted fault) s goes = sym goes
+
   module _ {root : ℕ} {map : ℕ → Option Mapping} where
     stored_by : SetsWords map → (image : Image) (pages : Pages) (a : ℕ) (width : Width) (value : ℕ) (m : Mapping) (rights : Rights)
         → IsSpaceOf root map image pages → m.rights ≡ rights → map (a / 4096) ≡ Some m → a % size_of width ≡ 0
@@ -296,10 +311,6 @@ module _ {Image : Type 0} (words : Image → WordMap) (satp : Image → ℕ) (wi
           rw (is.on, translated-mapped is.tables a Store fits, rights) (stored_alike sets image pages a width value (map (a / 4096)) is refl aligned);
     }
 
-    -- the pages are those that the program has by its tables
-    pub pages_of_space : (image : Image) (pages : Pages) → IsSpaceOf root map image pages → pages_by (words image) (satp image) ≡ pages
-    pages_of_space image pages is = ap (pages_by (words image)) is.on ∙ pages_by-mapped is.tables ∙ sym is.holds
-
     -- so a step of the program on its page tables is a step on its pages, and the tables stay as they are
     pub steps_follow : SetsWords map → (image : Image) (regs : List ℕ) (pc : ℕ) → Fits image → IsMapped (words image) root map → satp image ≡ satp_of root → pc < 2 ^ 32
         → Follows (IsSpaceOf root map) (sv32_space words satp with_word) page_space
@@ -312,3 +323,8 @@ module _ {Image : Type 0} (words : Image → WordMap) (satp : Image → ℕ) (wi
           holds = ap (pages_by (words image)) on ∙ pages_by-mapped tables;
         } in
         follows (IsSpaceOf root map) (sv32_space words satp with_word) page_space (space_follows sets) image (pages_by (words image) (satp image)) regs pc is small
+
+    -- and the same, as one equation
+    pub steps_agree : SetsWords map → (image : Image) (regs : List ℕ) (pc : ℕ) → Fits image → IsMapped (words image) root map → satp image ≡ satp_of root → pc < 2 ^ 32
+        → on_pages (user_step (sv32_space words satp with_word) regs pc image) ≡ user_step page_space regs pc (pages_by (words image) (satp image))
+    steps_agree sets image regs pc fits tables on small = told root map _ _ (steps_follow sets image regs pc fits tables on small)
