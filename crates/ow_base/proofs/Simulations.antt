@@ -136,7 +136,7 @@ module _ {A B : Type 0} (R : A → B → Type 0) (left : Spaces A) (right : Spac
   acts alike a b word regs pc (Loads width signed rd address) fits r =
       choose (is_aligned address (size_of width)) _ _ _ _
       (λ e. rw (alike.loaded a b address width r fits (aligned address (size_of width) e))
-            (loads a b regs pc rd width signed (right.loaded b address width) r))
+      (loads a b regs pc rd width signed (right.loaded b address width) r))
       (λ e. refl)
   acts alike a b word regs pc (Stores width address value) fits r =
       choose (is_aligned address (size_of width)) _ _ _ _

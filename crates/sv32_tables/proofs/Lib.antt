@@ -2,3 +2,4 @@
 pub mod Entries
 pub mod Bytes
 pub mod Spaces
+pub mod Others

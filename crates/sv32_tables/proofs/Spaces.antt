@@ -1,12 +1,12 @@
 -- A program whose page tables map each page to a frame of its own steps as on its pages.
-use Rattle.std.proofs.Common.{◌≡◌, ◌≢◌, ℕ, ◌+◌, ◌-◌, ◌*◌, ◌/◌, ◌%◌, ◌^◌, ◌<◌, ◌≤◌, ◌==◌, ◌&&◌, ◌⊎◌, nat_lt, Bool, true, false, List, Option, Some, None, Result, Ok, Err, refl, sym, ap, ◌∙◌, inl, inr, if◌then◌else◌, arith}
+use Rattle.std.proofs.Common.{◌≡◌, ◌≢◌, ℕ, ◌+◌, ◌*◌, ◌/◌, ◌%◌, ◌^◌, ◌<◌, ◌≤◌, ◌==◌, ◌&&◌, ◌⊎◌, nat_lt, Bool, true, false, List, Option, Some, None, Ok, refl, sym, ap, ◌∙◌, inl, inr, if◌then◌else◌, arith}
 use Rattle.std.proofs.Math.Path.{fun_ext}
 use Rattle.std.proofs.lemmas.Bool.{cases_eq, cases_lt}
 use Rattle.std.proofs.lemmas.Bool.Decides.{nat_tests}
 use Rattle.ow_base.specs.Pages.{Pages, page_space, value_at, with_value, fetched_from, loaded_from, stored_in}
 use Rattle.ow_base.specs.Sv32.{WordMap, by_last, by_first, translated, rights_by, byte_by, pages_by, byte_of, word_or_zero, overwritten, value_of, read_at, written_at, sv32_space}
 use Rattle.ow_base.specs.Words.{bits}
-use Rattle.ow_base.specs.UserStep.{user_step, size_of}
+use Rattle.ow_base.specs.UserStep.{Stepped, Next, Call, Faulted, user_step, size_of}
 use Rattle.ow_base.specs.declared.machine.Access.{Access}
 use Rattle.ow_base.specs.declared.machine.Access.TheVariants.{Fetch, Load, Store}
 use Rattle.ow_base.specs.declared.machine.Width.{Width}
@@ -14,12 +14,12 @@ use Rattle.ow_base.specs.declared.machine.Width.TheVariants.{Byte, Half, Word}
 use Rattle.ow_base.specs.declared.machine.Rights.{Rights}
 use Rattle.ow_base.specs.declared.machine.Rights.TheVariants.{Code, Values}
 use Rattle.ow_base.proofs.Simulations.{FollowsStore, Alike, Follows, follows}
-use Rattle.sv32_tables.specs.Entries.{leaf_word, pointer_word, granted}
+use Rattle.sv32_tables.specs.Entries.{pointer_word}
 use Rattle.sv32_tables.proofs.Bytes.{byte_of-overwritten, value_of-bytes, shifted, outside}
 use Rattle.sv32_tables.proofs.Entries.{leaf_read_back, pointer_read_back, none_mapped}
-use Rattle.sv32_tables.specs.Spaces.{Mapping, entry_of, mapped, rights_in, byte_in, pages_in, satp_of, IsMapped}
+use Rattle.sv32_tables.specs.Spaces.{Mapping, entry_of, mapped, rights_in, byte_in, pages_in, satp_of, IsMapped, IsWritable}
 
-pages_ext : (p q : Pages) → ((page : ℕ) → p.rights page ≡ q.rights page) → ((a : ℕ) → p.bytes a ≡ q.bytes a) → p ≡ q
+pub pages_ext : (p q : Pages) → ((page : ℕ) → p.rights page ≡ q.rights page) → ((a : ℕ) → p.bytes a ≡ q.bytes a) → p ≡ q
 pages_ext p q rights bytes =
     let with_rights : (ℕ → Option Rights) → Pages = λ r. record { rights = r; bytes = p.bytes } in
     let with_bytes : (ℕ → ℕ) → Pages = λ b. record { rights = q.rights; bytes = b } in
@@ -44,7 +44,7 @@ byte_told words None a = refl
 byte_told words (Some m) a = refl
 
 -- a place that is not the one that is set
-elsewhere : (f w frame place : ℕ) (new old : Option ℕ) → (f ≢ frame) ⊎ (w ≢ place) → (if (f == frame) && (w == place) then new else old) ≡ old
+pub elsewhere : (f w frame place : ℕ) (new old : Option ℕ) → (f ≢ frame) ⊎ (w ≢ place) → (if (f == frame) && (w == place) then new else old) ≡ old
 elsewhere f w frame place new old apart = grind (arith, nat_tests)
 
 -- where there was a word there is one after a word is set
@@ -112,9 +112,9 @@ module _ {words : WordMap} {root : ℕ} {map : ℕ → Option Mapping} (is : IsM
   rights_same page =
       both (nat_lt page (2 ^ 20)) _ _ _
       (λ in_reach.
-        let small : 4096 * page < 2 ^ 32 = grind (arith, nat_tests) in
-        let number : 4096 * page / 4096 ≡ page = omega arith in
-        rw (translated-mapped (4096 * page) Load small, translated-mapped (4096 * page) Store small, number) (rights_told (map page) (4096 * page)))
+      let small : 4096 * page < 2 ^ 32 = grind (arith, nat_tests) in
+      let number : 4096 * page / 4096 ≡ page = omega arith in
+      rw (translated-mapped (4096 * page) Load small, translated-mapped (4096 * page) Store small, number) (rights_told (map page) (4096 * page)))
       (λ out. let high : 524288 ≤ page = grind (arith, nat_tests) in sym (ap rights_in (is.behind page high)))
 
   bytes_same : (a : ℕ) → (pages_by words (satp_of root)).bytes a ≡ byte_in words (a % 4096) (map (a / 4096))
@@ -122,11 +122,11 @@ module _ {words : WordMap} {root : ℕ} {map : ℕ → Option Mapping} (is : IsM
   bytes_same a =
       both (nat_lt a (2 ^ 32)) _ _ _
       (λ in_reach.
-        let small : a < 2 ^ 32 = grind (arith, nat_tests) in
-        rw (translated-mapped a Load small) (byte_told words (map (a / 4096)) a))
+      let small : a < 2 ^ 32 = grind (arith, nat_tests) in
+      rw (translated-mapped a Load small) (byte_told words (map (a / 4096)) a))
       (λ out.
-        let high : 2 ^ 32 ≤ a = grind (arith, nat_tests) in
-        sym (ap (byte_in words (a % 4096)) (is.behind (a / 4096) (omega arith))))
+      let high : 2 ^ 32 ≤ a = grind (arith, nat_tests) in
+      sym (ap (byte_in words (a % 4096)) (is.behind (a / 4096) (omega arith))))
 
   -- the pages that a program has by its tables are those of the map
   pub pages_by-mapped : pages_by words (satp_of root) ≡ pages_in map words
@@ -158,6 +158,10 @@ module _ {words : WordMap} {root : ℕ} {map : ℕ → Option Mapping} (is : IsM
         apart = is.apart;
       }
 
+-- the word of a page's frame in which an address lies
+abbrev word_of : WordMap → Mapping → (address : ℕ) → ℕ
+word_of words m a = word_or_zero (words m.frame (a % 4096 / 4))
+
 -- the place of an aligned value in its word
 in_word : (a : ℕ) (width : Width) → a % size_of width ≡ 0 → a % 4096 % 4 % size_of width ≡ 0
 in_word a Byte aligned = omega arith
@@ -166,7 +170,7 @@ in_word a Word aligned = omega arith
 
 -- a byte of the page is one of its word
 byte_of_page : (words : WordMap) (map : ℕ → Option Mapping) (m : Mapping) (a b : ℕ) → map (a / 4096) ≡ Some m → b / 4 ≡ a / 4
-    → byte_in words (b % 4096) (map (b / 4096)) ≡ byte_of (word_or_zero (words m.frame (a % 4096 / 4))) (b % 4)
+    → byte_in words (b % 4096) (map (b / 4096)) ≡ byte_of (word_of words m a) (b % 4)
 byte_of_page words map m a b e near =
     let page : b / 4096 ≡ a / 4096 = omega arith in
     let place : b % 4096 / 4 ≡ a % 4096 / 4 = omega arith in
@@ -175,11 +179,10 @@ byte_of_page words map m a b e near =
 
 module _ (words : WordMap) (map : ℕ → Option Mapping) where
   value_read : (m : Mapping) (a : ℕ) (width : Width) → map (a / 4096) ≡ Some m → a % size_of width ≡ 0
-      → value_of (word_or_zero (words m.frame (a % 4096 / 4))) (a % 4096 % 4) width ≡ value_at (pages_in map words).bytes a width
+      → value_of (word_of words m a) (a % 4096 % 4) width ≡ value_at (pages_in map words).bytes a width
   value_read m a width e aligned =
-      let word : ℕ = word_or_zero (words m.frame (a % 4096 / 4)) in
-      sym (value_of-bytes (pages_in map words).bytes word a (a % 4096 % 4) width (omega arith) (in_word a width aligned)
-        (λ b j near fits. byte_of_page words map m a b e (omega arith) ∙ ap (byte_of word) (omega arith)))
+      sym (value_of-bytes (pages_in map words).bytes (word_of words m a) a (a % 4096 % 4) width (omega arith) (in_word a width aligned)
+      (λ b j near fits. byte_of_page words map m a b e (omega arith) ∙ ap (byte_of (word_of words m a)) (omega arith)))
 
   fetched_by : (m : Mapping) (a : ℕ) (rights : Rights) → m.rights ≡ rights → map (a / 4096) ≡ Some m → a % 4 ≡ 0
       → read_at words Fetch Word a (mapped (Some m) a Fetch) ≡ fetched_from (pages_in map words).bytes a (Some m.rights)
@@ -201,18 +204,18 @@ module _ {words : WordMap} {root : ℕ} {map : ℕ → Option Mapping} (is : IsM
   pub record IsWritten : Type 0 where
     pub page : map (a / 4096) ≡ Some m
     pub aligned : a % size_of width ≡ 0
-    pub set : (f w : ℕ) → changed f w ≡ (if (f == m.frame) && (w == a % 4096 / 4) then Some (overwritten (word_or_zero (words m.frame (a % 4096 / 4))) (a % 4096 % 4) width value) else words f w)
+    pub set : (f w : ℕ) → changed f w ≡ (if (f == m.frame) && (w == a % 4096 / 4) then Some (overwritten (word_of words m a) (a % 4096 % 4) width value) else words f w)
 
   same_word : IsWritten → (b : ℕ) → b / 4 ≡ a / 4 → byte_in changed (b % 4096) (map (b / 4096)) ≡ with_value (pages_in map words).bytes a width value b
   same_word written b near =
-      let word : ℕ = word_or_zero (words m.frame (a % 4096 / 4)) in
+      let word : ℕ = word_of words m a in
       let here : changed m.frame (a % 4096 / 4) ≡ Some (overwritten word (a % 4096 % 4) width value) =
-          written.set m.frame (a % 4096 / 4) ∙ grind (arith, nat_tests) in
+      written.set m.frame (a % 4096 / 4) ∙ grind (arith, nat_tests) in
       byte_of_page changed map m a b written.page near
       ∙ ap (λ o. byte_of (word_or_zero o) (b % 4)) here
       ∙ byte_of-overwritten word (a % 4096 % 4) (b % 4) width value (omega arith) (omega arith) (in_word a width written.aligned)
       ∙ shifted (byte_of word) (pages_in map words).bytes (4 * (a / 4)) (a % 4096 % 4) (b % 4) a b width value (omega arith) (omega arith)
-        (sym (byte_of_page words map m a b written.page near))
+      (sym (byte_of_page words map m a b written.page near))
 
   untouched : IsWritten → (b : ℕ) (o : Option Mapping) → b / 4 ≢ a / 4 → map (b / 4096) ≡ o → byte_in changed (b % 4096) o ≡ byte_in words (b % 4096) o
   untouched written b None apart e = refl
@@ -240,41 +243,63 @@ module _ {Image : Type 0} (words : Image → WordMap) (satp : Image → ℕ) (wi
     pub on : satp image ≡ satp_of root
     pub holds : pages ≡ pages_in map (words image)
 
-  -- a word that is set is found at its place, all others are as they were, and so are satp and what fits
-  pub record SetsWords : Type 0 where
-    pub set : (image : Image) (frame place value f w : ℕ) → Fits image → (old : ℕ) → words image frame place ≡ Some old → place < 1024
+  -- Where a program stores in a page of values, the word that is set is found at its place, all others are as they
+  -- were, and so is satp; and what fits fits then too.
+  pub record SetsWords (map : ℕ → Option Mapping) : Type 0 where
+    pub set : (image : Image) (frame place value f w : ℕ) → Fits image → IsWritable map frame place → (old : ℕ) → words image frame place ≡ Some old
         → words (with_word image frame place value) f w ≡ (if (f == frame) && (w == place) then Some value else words image f w)
-    pub kept : (image : Image) (frame place value : ℕ) → Fits image → Fits (with_word image frame place value)
+    pub kept : (image : Image) (frame place value : ℕ) → Fits image → IsWritable map frame place → (old : ℕ) → words image frame place ≡ Some old
+        → Fits (with_word image frame place value)
     pub same_satp : (image : Image) (frame place value : ℕ) → satp (with_word image frame place value) ≡ satp image
 
+  -- what a step came to, with the pages that the program has by its tables in place of memory
+  abbrev pub on_pages : Stepped Image → Stepped Pages
+  on_pages (Next regs pc image) = Next regs pc (pages_by (words image) (satp image))
+  on_pages Call = Call
+  on_pages (Faulted fault) = Faulted fault
+
+  -- the pages are those that the program has by its tables
+  pub pages_of_space : (root : ℕ) (map : ℕ → Option Mapping) (image : Image) (pages : Pages) → IsSpaceOf root map image pages → pages_by (words image) (satp image) ≡ pages
+  pages_of_space root map image pages is = ap (pages_by (words image)) is.on ∙ pages_by-mapped is.tables ∙ sym is.holds
+
+  told : (root : ℕ) (map : ℕ → Option Mapping) (step : Stepped Image) (s : Stepped Pages) → Follows (IsSpaceOf root map) (sv32_space words satp with_word) page_space step s → on_pages step ≡ s
+  told root map (Next regs pc image) s goes = ap (Next regs pc) (pages_of_space root map image goes.0 goes.2) ∙ sym goes.1
+  told root map Call s goes = sym goes
+  told root map (Faulted fault) s goes = sym goes
+
   module _ {root : ℕ} {map : ℕ → Option Mapping} where
-    stored_by : SetsWords → (image : Image) (pages : Pages) (a : ℕ) (width : Width) (value : ℕ) (m : Mapping) (rights : Rights)
+    stored_by : SetsWords map → (image : Image) (pages : Pages) (a : ℕ) (width : Width) (value : ℕ) (m : Mapping) (rights : Rights)
         → IsSpaceOf root map image pages → m.rights ≡ rights → map (a / 4096) ≡ Some m → a % size_of width ≡ 0
         → FollowsStore (IsSpaceOf root map) (sv32_space words satp with_word) page_space (written_at words satp with_word image width value a (mapped (Some m) a Store)) (stored_in pages a width value (Some m.rights))
     stored_by sets image pages a width value m Code is r e aligned = rw r refl
     stored_by sets image pages a width value m Values is r e aligned =
         let place : ℕ = a % 4096 / 4 in
-        let new : ℕ = overwritten (word_or_zero (words image m.frame place)) (a % 4096 % 4) width value in
+        let new : ℕ = overwritten (word_of (words image) m a) (a % 4096 % 4) width value in
         let after : Image = with_word image m.frame place new in
         let old = is.tables.whole (a / 4096) m e place (omega arith) in
+        let writable : IsWritable map m.frame place = record { page = a / 4096; mapping = m; there = e; of_values = r; at = refl; within = omega arith } in
         let set : (f w : ℕ) → words after f w ≡ (if (f == m.frame) && (w == place) then Some new else words image f w) =
-            λ f w. sets.set image m.frame place new f w is.fits old.0 old.1 (omega arith) in
+        λ f w. sets.set image m.frame place new f w is.fits writable old.0 old.1 in
         let written : IsWritten is.tables (words after) m a width value = record { page = e; aligned = aligned; set = set } in
-        rw r (record { rights = pages.rights; bytes = with_value pages.bytes a width value }, refl, record {
-          fits = sets.kept image m.frame place new is.fits;
-          tables = IsMapped-set is.tables (words after) (a / 4096) m place new e set;
-          on = sets.same_satp image m.frame place new ∙ is.on;
-          holds = rw is.holds (pages_in-written is.tables (words after) m a width value written);
-        })
+        rw r (
+          record { rights = pages.rights; bytes = with_value pages.bytes a width value },
+          refl,
+          record {
+            fits = sets.kept image m.frame place new is.fits writable old.0 old.1;
+            tables = IsMapped-set is.tables (words after) (a / 4096) m place new e set;
+            on = sets.same_satp image m.frame place new ∙ is.on;
+            holds = rw is.holds (pages_in-written is.tables (words after) m a width value written);
+          },
+        )
 
-    stored_alike : SetsWords → (image : Image) (pages : Pages) (a : ℕ) (width : Width) (value : ℕ) (o : Option Mapping)
+    stored_alike : SetsWords map → (image : Image) (pages : Pages) (a : ℕ) (width : Width) (value : ℕ) (o : Option Mapping)
         → IsSpaceOf root map image pages → map (a / 4096) ≡ o → a % size_of width ≡ 0
         → FollowsStore (IsSpaceOf root map) (sv32_space words satp with_word) page_space (written_at words satp with_word image width value a (mapped o a Store)) (stored_in pages a width value (rights_in o))
     stored_alike sets image pages a width value None is e aligned = refl
     stored_alike sets image pages a width value (Some m) is e aligned = stored_by sets image pages a width value m m.rights is refl e aligned
 
     -- the program's memory answers as its pages do
-    pub space_follows : SetsWords → Alike (IsSpaceOf root map) (sv32_space words satp with_word) page_space
+    pub space_follows : SetsWords map → Alike (IsSpaceOf root map) (sv32_space words satp with_word) page_space
     unfolding sv32_space page_space
     space_follows sets = record {
       fetched = λ image pages a is fits aligned.
@@ -287,9 +312,9 @@ module _ {Image : Type 0} (words : Image → WordMap) (satp : Image → ℕ) (wi
     }
 
     -- so a step of the program on its page tables is a step on its pages, and the tables stay as they are
-    pub steps_follow : SetsWords → (image : Image) (regs : List ℕ) (pc : ℕ) → Fits image → IsMapped (words image) root map → satp image ≡ satp_of root → pc < 2 ^ 32
+    pub steps_follow : SetsWords map → (image : Image) (regs : List ℕ) (pc : ℕ) → Fits image → IsMapped (words image) root map → satp image ≡ satp_of root → pc < 2 ^ 32
         → Follows (IsSpaceOf root map) (sv32_space words satp with_word) page_space
-          (user_step (sv32_space words satp with_word) regs pc image) (user_step page_space regs pc (pages_by (words image) (satp image)))
+        (user_step (sv32_space words satp with_word) regs pc image) (user_step page_space regs pc (pages_by (words image) (satp image)))
     steps_follow sets image regs pc fits tables on small =
         let is : IsSpaceOf root map image (pages_by (words image) (satp image)) = record {
           fits = fits;
@@ -298,3 +323,8 @@ module _ {Image : Type 0} (words : Image → WordMap) (satp : Image → ℕ) (wi
           holds = ap (pages_by (words image)) on ∙ pages_by-mapped tables;
         } in
         follows (IsSpaceOf root map) (sv32_space words satp with_word) page_space (space_follows sets) image (pages_by (words image) (satp image)) regs pc is small
+
+    -- and the same, as one equation
+    pub steps_agree : SetsWords map → (image : Image) (regs : List ℕ) (pc : ℕ) → Fits image → IsMapped (words image) root map → satp image ≡ satp_of root → pc < 2 ^ 32
+        → on_pages (user_step (sv32_space words satp with_word) regs pc image) ≡ user_step page_space regs pc (pages_by (words image) (satp image))
+    steps_agree sets image regs pc fits tables on small = told root map _ _ (steps_follow sets image regs pc fits tables on small)

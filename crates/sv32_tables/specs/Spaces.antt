@@ -1,5 +1,5 @@
 -- A program whose page tables map each page to a frame of its own, and the pages that it has by them.
-use Rattle.std.specs.Prelude.{◌≡◌, ◌≢◌, ℕ, ◌+◌, ◌*◌, ◌/◌, ◌%◌, ◌^◌, ◌<◌, ◌≤◌, ◌==◌, if◌then◌else◌, Option, Some, None, Result, Ok, Err}
+use Rattle.std.specs.Prelude.{◌≡◌, ◌≢◌, ℕ, ◌+◌, ◌/◌, ◌%◌, ◌^◌, ◌<◌, ◌≤◌, ◌==◌, if◌then◌else◌, Option, Some, None, Result, Ok, Err}
 use Rattle.ow_base.specs.Pages.{Pages}
 use Rattle.ow_base.specs.Sv32.{WordMap, byte_of, word_or_zero}
 use Rattle.ow_base.specs.declared.machine.Access.{Access}
@@ -7,6 +7,7 @@ use Rattle.ow_base.specs.declared.machine.Phys.{Phys}
 use Rattle.ow_base.specs.declared.machine.PageCause.{PageCause}
 use Rattle.ow_base.specs.declared.machine.PageCause.TheVariants as cause
 use Rattle.ow_base.specs.declared.machine.Rights.{Rights}
+use Rattle.ow_base.specs.declared.machine.Rights.TheVariants.{Values}
 use Rattle.sv32_tables.specs.Entries.{leaf_word, pointer_word, granted}
 
 -- where a page lies and what the program may do with it
@@ -64,3 +65,12 @@ pub record IsMapped (words : WordMap) (root : ℕ) (map : ℕ → Option Mapping
   pub whole : (page : ℕ) (m : Mapping) → map page ≡ Some m → (i : ℕ) → i < 1024 → (word : ℕ) × (words m.frame i ≡ Some word)
   pub no_table : (page : ℕ) (m : Mapping) → map page ≡ Some m → (m.frame ≢ root) × (m.frame ≢ low) × (m.frame ≢ high)
   pub apart : (page other : ℕ) (m n : Mapping) → map page ≡ Some m → map other ≡ Some n → m.frame ≡ n.frame → page ≡ other
+
+-- a place in the frame of a page of values
+pub record IsWritable (map : ℕ → Option Mapping) (frame place : ℕ) : Type 0 where
+  pub page : ℕ
+  pub mapping : Mapping
+  pub there : map page ≡ Some mapping
+  pub of_values : mapping.rights ≡ Values
+  pub at : mapping.frame ≡ frame
+  pub within : place < 1024

@@ -50,7 +50,7 @@ impl Entry {
         self.word / flag.bit() % 2 == 1
     }
 
-    /// The frame that the entry names: that of a page, or of a further table.
+    /// The frame that the entry names, its PPN: that of a page, or of a further table.
     pub fn frame(self) -> u32
         ensures value { result ≡ frame_named self.word }
         ensures fits { result < 2 ^ 22 }

@@ -17,8 +17,9 @@ const ENTRIES: u32 = 1024;
 // The frames that `satp` can name: PPN is its 22 lowest bits.
 const FRAMES: u32 = 0x40_0000;
 
-/// Where an access of a program to the address `va` leads, by the tables whose root `satp` names. MODE is 1 in
-/// `satp`: Sv32 is on.
+/// Where an access of a program in user mode to the address `va` leads, by the tables whose root `satp` names.
+/// MODE is 1 in `satp`: Sv32 is on. Its ASID counts for nothing, and MXR is taken as 0: what can only be executed
+/// is not loaded.
 ///
 /// A place has the address's offset in its page, and its word is there. `Err(Page)` where an entry does not count, leads no further, does not give the access or is a superpage that
 /// is not aligned; `Err(Access)` where a table or the place lies in a frame that is not there.
@@ -41,7 +42,7 @@ pub fn walk<W: WordSource>(
     }
 }
 
-// The place of an address in the table of the first level, and in one of the last level.
+// The place of an address in the table of the first level: VPN[1].
 fn first_place(address: u32) -> u32
     ensures value { result ≡ bits address 22 10 }
     ensures fits { result < 1024 }
@@ -49,6 +50,7 @@ fn first_place(address: u32) -> u32
     address / SUPERPAGE
 }
 
+// Its place in a table of the last level, and the frame's place in a superpage: VPN[0].
 fn last_place(address: u32) -> u32
     ensures value { result ≡ bits address 12 10 }
     ensures fits { result < 1024 }
