@@ -8,7 +8,7 @@ use Rattle.ow_base.specs.declared.machine.Rights.{Rights}
 use Rattle.phys_memory.specs.Memory.{MemoryParts, words_of, with_word, frame_count}
 use Rattle.phys_memory.proofs.Words.{words_of-set}
 use Rattle.sv32_tables.specs.Entries.{leaf_word}
-use Rattle.otherworld.specs.Boot.{with_words, with_leaves}
+use Rattle.otherworld.specs.Boot.{with_words, with_leaves, with_one}
 
 words_equal : (f g : WordMap) → ((frame place : ℕ) → f frame place ≡ g frame place) → f ≡ g
 words_equal f g same = λ i frame place. same frame place i
@@ -40,3 +40,7 @@ with_leaves-more m old table first k frame rights so_far there fits =
     words_equal _ _ (λ f w.
     words_of-set m table (first + k) (leaf_word (frame + k) rights) f w there fits
     ∙ rw so_far (grind (arith, nat_tests)))
+
+-- one word is set
+pub words_of-one : (m : MemoryParts) (frame place value : ℕ) → frame < frame_count m → place < 1024 → words_of (with_word m frame place value) ≡ with_one (words_of m) frame place value
+words_of-one m frame place value there fits = words_equal _ _ (λ f w. words_of-set m frame place value f w there fits)

@@ -6,8 +6,8 @@ pub mod Answering
 pub mod Turns
 pub mod Sounds
 pub mod Booting
-pub mod Tables
 pub mod Loading
+pub mod Tables
 pub mod Starting
 pub mod Tops
 pub mod Reports

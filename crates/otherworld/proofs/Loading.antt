@@ -1,22 +1,19 @@
 -- The pages that boot places are those of the program.
 use Rattle.std.proofs.Common.{◌≡◌, ℕ, ◌+◌, ◌-◌, ◌*◌, ◌/◌, ◌%◌, ◌^◌, ◌<◌, ◌≤◌, Bool, true, false, cond, nat_eq, nat_lt, List, [], if◌then◌else◌, Option, length, get_or, Some, None, refl, ap, sym, ◌∙◌, inl, inr, arith}
 use Rattle.std.proofs.lemmas.Bool.{cases_lt}
+use Rattle.std.proofs.lemmas.Bool.Decides.{nat_tests}
 use Rattle.std.proofs.lemmas.List.{get_or_past}
 use Rattle.std.proofs.Math.Nat.{zero-div}
 use Rattle.std.proofs.lemmas.Grind.{common_steps}
 use Rattle.ow_base.specs.Words.{byte_of_words}
-use Rattle.ow_base.specs.Pages.{Pages, no_pages, with_page}
+use Rattle.ow_base.specs.Pages.{Pages}
+use Rattle.ow_base.specs.Sv32.{WordMap}
 use Rattle.ow_base.specs.Unix.{is_within, page_count, started_pages, started_rights, started_byte}
 use Rattle.ow_base.specs.declared.machine.Rights.{Rights}
 use Rattle.ow_base.specs.declared.machine.Rights.TheVariants.{Code, Values}
 use Rattle.ow_base.specs.declared.worlds.Program.{Program}
-
--- the pages with so many from a first one on that hold these words, 0 behind the last word
-abbrev pub with_words : Pages → (first count : ℕ) → Rights → (words : List ℕ) → Pages
-with_words pages first count rights words = record {
-  rights = λ page. if is_within first count page then Some rights else pages.rights page;
-  bytes = λ a. if is_within first count (a / 4096) then byte_of_words words (a - 4096 * first) else pages.bytes a;
-}
+use Rattle.sv32_tables.specs.Spaces.{rights_in, byte_in, pages_in}
+use Rattle.otherworld.specs.Boot.{started_map}
 
 -- pages that are the same everywhere are the same
 pages_equal : (p q : Pages) → ((page : ℕ) → p.rights page ≡ q.rights page) → ((a : ℕ) → p.bytes a ≡ q.bytes a) → p ≡ q
@@ -101,13 +98,48 @@ module _ (code values : List ℕ) (few : length code ≤ 65536) (few_values : le
         ]
       ]
 
-  -- the pages of a program, placed one part after the other
-  loaded_rights : (p : ℕ) → (with_words (with_words (with_words no_pages 16 (page_count code) Code code) (16 + page_count code) (page_count values) Values values) 0x7fffc 4 Values []).rights p ≡ started_rights (page_count code) (page_count values) p
-  unfolding with_words started_rights
-  loaded_rights p = grind arith
+-- a byte of a page is that of the words whose part the page holds
+region_byte : (words : WordMap) (list : List ℕ) (rights : Rights) (first frame a : ℕ) → first ≤ a / 4096
+    → words (frame + (a / 4096 - first)) (a % 4096 / 4) ≡ Some (get_or list (1024 * (a / 4096 - first) + a % 4096 / 4) 0)
+    → byte_in words (a % 4096) (Some (record { frame = frame + (a / 4096 - first); rights = rights })) ≡ byte_of_words list (a - 4096 * first)
+region_byte words list rights first frame a low found =
+    let place : (a - 4096 * first) / 4 ≡ 1024 * (a / 4096 - first) + a % 4096 / 4 = omega arith in
+    let rest : (a - 4096 * first) % 4 ≡ a % 4096 % 4 = omega arith in
+    rw (found, place, rest) refl
 
-pub with_words-program : (program : Program) → length program.code ≤ 65536 → length program.values ≤ 65536
-    → with_words (with_words (with_words no_pages 16 (page_count program.code) Code program.code) (16 + page_count program.code) (page_count program.values) Values program.values) 0x7fffc 4 Values [] ≡ started_pages program
-unfolding with_words started_pages loaded_byte
-with_words-program program few few_values =
-    pages_equal _ _ (loaded_rights program.code program.values few few_values) (loaded_bytes program.code program.values few few_values)
+module _ (words : WordMap) (code values : List ℕ) (cp dp : ℕ)
+    (of_code : (k i : ℕ) → k < cp → i < 1024 → words (129 + k) i ≡ Some (get_or code (1024 * k + i) 0))
+    (of_values : (k i : ℕ) → k < dp → i < 1024 → words (129 + cp + k) i ≡ Some (get_or values (1024 * k + i) 0))
+    (of_stack : (k i : ℕ) → k < 4 → i < 1024 → words (129 + cp + dp + k) i ≡ Some 0) where
+  byte_by : (a : ℕ) (stack value text : Bool) → is_within 0x7fffc 4 (a / 4096) ≡ stack → is_within (16 + cp) dp (a / 4096) ≡ value → is_within 16 cp (a / 4096) ≡ text
+      → byte_in words (a % 4096) (cond stack (Some (record { frame = 129 + cp + dp + (a / 4096 - 0x7fffc); rights = Values }))
+      (cond value (Some (record { frame = 129 + cp + (a / 4096 - (16 + cp)); rights = Values }))
+      (cond text (Some (record { frame = 129 + (a / 4096 - 16); rights = Code })) None)))
+      ≡ cond stack (byte_of_words [] (a - 2147467264)) (cond value (byte_of_words values (a - 4096 * (16 + cp))) (cond text (byte_of_words code (a - 65536)) 0))
+  byte_by a true value text s v t =
+      region_byte words [] Values 0x7fffc (129 + cp + dp) a (grind arith) (of_stack (a / 4096 - 0x7fffc) (a % 4096 / 4) (grind arith) (omega arith))
+  byte_by a false true text s v t =
+      region_byte words values Values (16 + cp) (129 + cp) a (grind arith) (of_values (a / 4096 - (16 + cp)) (a % 4096 / 4) (grind arith) (omega arith))
+  byte_by a false false true s v t =
+      region_byte words code Code 16 129 a (grind arith) (of_code (a / 4096 - 16) (a % 4096 / 4) (grind arith) (omega arith))
+  byte_by a false false false s v t = refl
+
+  byte_mapped : (a : ℕ) → byte_in words (a % 4096) (started_map cp dp (a / 4096)) ≡ loaded_byte cp dp code values a
+  unfolding started_map loaded_byte
+  byte_mapped a = byte_by a _ _ _ refl refl refl
+
+rights_mapped : (cp dp page : ℕ) → cp ≤ 64 → dp ≤ 64 → rights_in (started_map cp dp page) ≡ started_rights cp dp page
+unfolding started_map started_rights
+rights_mapped cp dp page few few_values = grind (arith, nat_tests)
+
+-- the pages that the words give by the map are those of the program
+pub pages_in-started : (words : WordMap) (program : Program) → length program.code ≤ 65536 → length program.values ≤ 65536
+    → ((k i : ℕ) → k < page_count program.code → i < 1024 → words (129 + k) i ≡ Some (get_or program.code (1024 * k + i) 0))
+    → ((k i : ℕ) → k < page_count program.values → i < 1024 → words (129 + page_count program.code + k) i ≡ Some (get_or program.values (1024 * k + i) 0))
+    → ((k i : ℕ) → k < 4 → i < 1024 → words (129 + page_count program.code + page_count program.values + k) i ≡ Some 0)
+    → pages_in (started_map (page_count program.code) (page_count program.values)) words ≡ started_pages program
+unfolding started_pages
+pages_in-started words program few few_values of_code of_values of_stack =
+    pages_equal _ _ (λ page. rights_mapped (page_count program.code) (page_count program.values) page (omega arith) (omega arith))
+    (λ a. byte_mapped words program.code program.values (page_count program.code) (page_count program.values) of_code of_values of_stack a
+    ∙ loaded_bytes program.code program.values few few_values a)

@@ -10,7 +10,7 @@ use Rattle.ow_base.specs.declared.worlds.Start.{Start as Started}
 use Rattle.ow_plant.specs.State.{PlantState, silent_terminal as silent_device, Terminal as Device}
 use Rattle.otherworld.specs.State.{pages_at}
 use Rattle.otherworld.specs.declared.kernel_traps.Life.TheVariants.{Outside}
-use Rattle.otherworld.specs.State.{unix_of, only, process_in, the_description, terminals_of, IsBuilt, IsTerminalSound, IsSound}
+use Rattle.otherworld.specs.State.{HasPages, unix_of, only, process_in, the_description, terminals_of, IsBuilt, IsTerminalSound, IsSound}
 
 module _ (load : Load) (program : Program) (start : Started) (built : IsBuilt load program start) where
   starts_process : (pid : ℕ) → only (Some (process_in Out started_bank (started_pages program))) pid ≡ started_as load pid
@@ -69,22 +69,17 @@ pub silent_sound : (t : Device) (room n budget : ℕ) → t ≡ silent_device ro
 unfolding screen_of
 silent_sound t room n budget e f = record { shown = rw e refl; few = rw e (omega arith); room = rw e f }
 
--- a program that starts has no page past the last address
-started_within : (cp dp page : ℕ) → cp ≤ 64 → dp ≤ 64 → 2 ^ 20 ≤ page → started_rights cp dp page ≡ None
-unfolding started_rights
-started_within cp dp page few few_values past = grind arith
-
 -- the state after boot is sound
-pub IsSound-booted : (program : Program) (s : PlantState) (tty : ℕ) (b : Bank) → length program.code ≤ 65536 → length program.values ≤ 65536 → tty < 2 → s.shape.budget ≤ 2000000
-    → s.armed ≡ true → pages_at s.memory ≡ started_pages program → s.tty0 ≡ silent_device (16 * s.shape.budget) → s.tty1 ≡ silent_device (16 * s.shape.budget) → s.steps ≡ 0 → s.traps ≡ 0 → s.history ≡ []
+pub IsSound-booted : (s : PlantState) (tty : ℕ) (b : Bank) → tty < 2 → s.shape.budget ≤ 2000000
+    → s.armed ≡ true → s.in_user ≡ false → HasPages s.shape.user_frames s.memory → s.tty0 ≡ silent_device (16 * s.shape.budget) → s.tty1 ≡ silent_device (16 * s.shape.budget) → s.steps ≡ 0 → s.traps ≡ 0 → s.history ≡ []
     → IsSound s (record { tty = tty; last = 0; life = Outside b })
-unfolding started_pages
-IsSound-booted program s tty b few few_values which small armed pages tty0 tty1 steps traps history = record {
+IsSound-booted s tty b which small armed idle pages tty0 tty1 steps traps history = record {
   armed = armed;
   tty = which;
   last = omega arith;
   life = tt;
-  within = λ page past. ap (λ (p : Pages). p.rights page) pages ∙ started_within (page_count program.code) (page_count program.values) page (omega arith) (omega arith) past;
+  pages = pages;
+  in_use = λ inside. absurd (cc (inside, idle));
   budget = omega (arith, steps);
   small = small;
   few_traps = omega (arith, traps);

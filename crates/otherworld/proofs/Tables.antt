@@ -13,7 +13,11 @@ use Rattle.phys_memory.specs.Memory.{MemoryParts, IsSized, words_of, zeroed, fra
 use Rattle.phys_memory.proofs.Words.{words_of-zeroed, words_of-some, frame_count-sized}
 use Rattle.sv32_tables.specs.Entries.{leaf_word, pointer_word}
 use Rattle.sv32_tables.specs.Spaces.{Mapping, IsMapped, entry_of}
+use Rattle.ow_base.specs.Unix.{started_pages}
+use Rattle.sv32_tables.proofs.Spaces.{pages_by-mapped}
+use Rattle.otherworld.specs.State.{pages_at, HasPages}
 use Rattle.otherworld.specs.Boot.{with_words, with_leaves, with_program, started_map, with_tables}
+use Rattle.otherworld.proofs.Loading.{pages_in-started}
 
 -- words that are stored are found from their first frame on, and 0 behind them where it was 0
 pub stored_word : (old : WordMap) (first : ℕ) (words : List ℕ) (k i : ℕ) → i < 1024 → old (first + k) i ≡ Some 0
@@ -140,3 +144,20 @@ module _ (u : ℕ) (program : Program) (memory : MemoryParts) (few : page_count 
         no_table = λ page m e. (λ q. omega (arith, (of page m e).0, q), λ q. omega (arith, (of page m e).0, q), λ q. omega (arith, (of page m e).0, q));
         apart = λ page other m n e f same. (of page m e).2 ∙ ap (page_in cp dp) same ∙ sym (of other n f).2;
       }
+
+  -- and so its pages are those that it starts with
+  pub pages_at-built : length program.code ≤ 65536 → length program.values ≤ 65536 → pages_at memory ≡ started_pages program
+  unfolding pages_at
+  pages_at-built short short_values =
+      let cp : ℕ = page_count program.code in
+      let dp : ℕ = page_count program.values in
+      let old : WordMap = with_program (words_of (zeroed u)) program in
+      pages_by-mapped IsMapped-built
+      ∙ pages_in-started (words_of memory) program short short_values
+      (λ k i small fits_i. rw built (beside_tables old cp dp (129 + k) i (omega arith) ∙ code_word u program fits k i small fits_i))
+      (λ k i small fits_i. rw built (beside_tables old cp dp (129 + cp + k) i (omega arith) ∙ value_word u program fits k i small fits_i))
+      (λ k i small fits_i. rw built (beside_tables old cp dp (129 + cp + dp + k) i (omega arith) ∙ stack_word u program fits k i small fits_i))
+
+  -- so memory has the pages of the process
+  pub HasPages-built : HasPages u memory
+  HasPages-built = record { sized = sized; map = started_map (page_count program.code) (page_count program.values); mapped = IsMapped-built }

@@ -29,10 +29,10 @@ there : (m : MemoryParts) (frame place old : ℕ) → words_of m frame place ≡
 unfolding words_of
 there m frame place old h = grind (arith, nat_tests)
 
-seen_sets : (user_frames : ℕ) → SetsWords words_seen root_seen with_seen (IsSeenSized user_frames)
-seen_sets user_frames = record {
-  set = λ m frame place value f w fits old is small. words_of-set m.memory frame place value f w (there m.memory frame place old is) small;
-  kept = λ m frame place value fits. IsSized-set user_frames m.memory frame place value fits;
+seen_sets : (user_frames : ℕ) (map : ℕ → Option Mapping) → SetsWords words_seen root_seen with_seen (IsSeenSized user_frames) map
+seen_sets user_frames map = record {
+  set = λ m frame place value f w fits writable old is. words_of-set m.memory frame place value f w (there m.memory frame place old is) writable.within;
+  kept = λ m frame place value fits writable old is. IsSized-set user_frames m.memory frame place value fits;
   same_satp = λ m frame place value. refl;
 }
 
@@ -41,4 +41,4 @@ pub steps_on_pages : (user_frames : ℕ) (m : Seen) (regs : List ℕ) (pc root :
     → Follows (IsSpaceOf words_seen root_seen with_seen (IsSeenSized user_frames) root map) seen_space page_space (user_step seen_space regs pc m) (user_step page_space regs pc (pages_by (words_of m.memory) m.satp))
 unfolding seen_space
 steps_on_pages user_frames m regs pc root map sized mapped on small =
-    steps_follow words_seen root_seen with_seen (IsSeenSized user_frames) (seen_sets user_frames) m regs pc sized mapped on small
+    steps_follow words_seen root_seen with_seen (IsSeenSized user_frames) (seen_sets user_frames map) m regs pc sized mapped on small

@@ -2,4 +2,3 @@
 pub mod Entries
 pub mod Bytes
 pub mod Spaces
-pub mod Others
