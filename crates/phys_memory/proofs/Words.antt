@@ -14,7 +14,7 @@ unfolding with_word
 frame_count-set m f w v = rw (whole-set m (1024 * f + w) v, length-set)
 
 -- a word is set at its place, and at no other
-nth-set : (xs : List ℕ) (f w v f' w' : ℕ) → 1024 * f + w < length xs → w < 1024 → w' < 1024
+pub nth-set : (xs : List ℕ) (f w v f' w' : ℕ) → 1024 * f + w < length xs → w < 1024 → w' < 1024
     → slice_index (slice_set xs (1024 * f + w) v) (1024 * f' + w') ≡ (if f' == f && w' == w then v else slice_index xs (1024 * f' + w'))
 nth-set xs f w v f' w' there fits fits' = grind (arith, nat_tests, get_or-set_at, get_or-set_other {A = ℕ})
 
@@ -48,6 +48,10 @@ IsSized-zeroed u = record {
 pub words_of-none : (m : MemoryParts) (f w : ℕ) → frame_count m ≤ f → words_of m f w ≡ None
 unfolding words_of
 words_of-none m f w past = grind (arith, nat_tests)
+
+pub words_of-past : (m : MemoryParts) (f w : ℕ) → 1024 ≤ w → words_of m f w ≡ None
+unfolding words_of
+words_of-past m f w past = grind (arith, nat_tests)
 
 pub words_of-some : (m : MemoryParts) (f w : ℕ) → f < frame_count m → w < 1024 → is_some (words_of m f w) ≡ true
 unfolding words_of

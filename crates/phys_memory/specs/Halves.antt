@@ -14,15 +14,20 @@ abbrev pub own_half : MemoryParts → (dead : AreaId) → List ℕ
 own_half m A = m.b
 own_half m B = m.a
 
+-- how many words lie before the other half
+abbrev pub words_before : MemoryParts → (dead : AreaId) → ℕ
+words_before m A = length m.boot + length m.a
+words_before m B = length m.boot
+
 -- the number of the first frame of the other half
 abbrev pub first_own : MemoryParts → (dead : AreaId) → ℕ
-first_own m A = length m.boot / 1024 + length m.a / 1024
-first_own m B = length m.boot / 1024
+first_own m dead = words_before m dead / 1024
 
 -- whether a frame is among those that lie one behind the other from a first one on
 abbrev pub is_among : (first : ℕ) → (words : List ℕ) → (frame : ℕ) → Bool
 is_among first words frame = not (nat_lt frame first) && nat_lt frame (first + length words / 1024)
 
+-- whether it is a frame of the half that is not dead
 abbrev pub is_own : MemoryParts → (dead : AreaId) → (frame : ℕ) → Bool
 is_own m dead frame = is_among (first_own m dead) (own_half m dead) frame
 

@@ -1,6 +1,6 @@
 use Rattle.std.proofs.Common.{◌≡◌, ℕ, ◌+◌, List, refl, sym, ap, ◌∙◌, length, arith}
 use Rattle.phys_memory.specs.Memory.{MemoryParts}
-use Rattle.phys_memory.proofs.Beside.{beside_b}
+use Rattle.phys_memory.proofs.Own.{beside_b}
 use Rattle.phys_memory.proofs.whole.Memory.lend_b.Goals as goal
 
 pub returns : goal.returns
@@ -15,4 +15,5 @@ returns c =
       dead_words = beside_b c.args.self.now c.new.result c.count-boot.result c.count.result (c.new.ensures.boot ∙ boot) whole_boot whole_a (c.new.ensures.half ∙ a) c.new.ensures.first;
       own_words = b;
       own_frames = omega (arith, whole_boot, whole_a);
+      whole_frames = record { boot = omega (arith, whole_boot); a = omega (arith, whole_a); b = omega (arith, ap (length {A = ℕ}) (sym b), c.count-own.ensures.count) };
     })
