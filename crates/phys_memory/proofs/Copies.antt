@@ -21,13 +21,7 @@ pub record Copied (source : ℕ → Option ℕ) (old new : OwnWords) (to count :
   pub first : new.first ≡ old.first
   pub place : new.words.ghost_name ≡ old.words.ghost_name
 
--- a word that is set by its frame's number is set at its place, and at no other
-lent-set : (first : ℕ) (xs : List ℕ) (f w v f' w' : ℕ) → is_among first xs f ≡ true → w < 1024 → w' < 1024
-    → words_from first (slice_set xs (1024 * (f - first) + w) v) f' w' ≡ (if f' == f && w' == w then Some v else words_from first xs f' w')
-lent-set first xs f w v f' w' there fits fits' =
-    let at = nth-set xs (f - first) w v (f' - first) w' in
-    grind (arith, nat_tests, common_steps, at, length-set {A = ℕ})
-
+-- a choice passes through a function
 by_test : {X Y : Type 0} (g : X → Y) (x y : X) {u v : Y} (b : Bool) → u ≡ g x → v ≡ g y → (if b then u else v) ≡ g (if b then x else y)
 by_test g x y true e d = e
 by_test g x y false e d = d

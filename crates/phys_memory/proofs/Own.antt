@@ -12,14 +12,15 @@ use Rattle.phys_memory.specs.Halves.{words_beside, first_own, own_half, with_own
 use Rattle.phys_memory.specs.Reading.{words_read, words_from}
 use Rattle.phys_memory.specs.declared.lent.DeadWords.{DeadWords}
 
-module _ (m : MemoryParts) (d : DeadWords) (boot a : ℕ) (same : d.boot.now ≡ m.boot) (whole_boot : length m.boot ≡ 1024 * boot) (whole_a : length m.a ≡ 1024 * a) where
-  pub beside_b : d.half.now ≡ m.a → d.first ≡ boot → words_read d ≡ words_beside m A
+-- the boot frame and a half, which has its first frame's number, are all that is not of the other half
+module _ (m : MemoryParts) (d : DeadWords) (framed : AreWholeFrames m) (same : d.boot.now ≡ m.boot) where
+  pub beside_b : d.half.now ≡ m.a → d.first ≡ length m.boot / 1024 → words_read d ≡ words_beside m A
   unfolding words_read words_beside words_of
-  beside_b half first = fun_ext (λ f. fun_ext (λ w. grind (arith, nat_tests, common_steps, same, whole_boot, whole_a, half, first)))
+  beside_b half first = fun_ext (λ f. fun_ext (λ w. grind (arith, nat_tests, common_steps, same, framed.boot, framed.a, half, first)))
 
-  pub beside_a : d.half.now ≡ m.b → d.first ≡ boot + a → words_read d ≡ words_beside m B
+  pub beside_a : d.half.now ≡ m.b → d.first ≡ (length m.boot + length m.a) / 1024 → words_read d ≡ words_beside m B
   unfolding words_read words_beside words_of
-  beside_a half first = fun_ext (λ f. fun_ext (λ w. grind (arith, nat_tests, common_steps, same, whole_boot, whole_a, half, first)))
+  beside_a half first = fun_ext (λ f. fun_ext (λ w. grind (arith, nat_tests, common_steps, same, framed.boot, framed.a, half, first)))
 
 -- where a number of a row of three lists leads
 nth-third : (xs ys zs : List ℕ) (i : ℕ) → length xs + length ys ≤ i → slice_index (xs ++ (ys ++ zs)) i ≡ slice_index zs (i - (length xs + length ys))

@@ -59,6 +59,14 @@ pub struct OwnWords<'a> {
 }
 
 impl OwnWords<'_> {
+    /// Whether a frame, by its number in memory, is one of this half.
+    pub fn has_frame(&self, frame: u32) -> bool
+        ensures { result ≡ is_among self.now.first self.now.words.now frame }
+    {
+        let frame = frame as usize;
+        frame >= self.first && frame - self.first < self.words.count()
+    }
+
     /// The word of a frame of this half, by the frame's number in memory, at a place below 1,024.
     pub fn load(&self, frame: u32, word: u32) -> u32
         requires word { word < 1024 }

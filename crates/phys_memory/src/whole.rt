@@ -56,6 +56,14 @@ impl Memory {
         Ok(Memory { boot, a, b })
     }
 
+    /// How many frames there are in all.
+    pub fn frame_count(&self) -> usize
+        ensures count { result ≡ frame_count self.now }
+        ensures whole_frames { AreWholeFrames self.now }
+    {
+        self.boot.count() + self.a.count() + self.b.count()
+    }
+
     /// Writes the word of a frame that is there, at a place below 1,024. No other word changes.
     #[tactic(auto, unfolding(crate::specs::Memory::with_word))]
     pub fn store(&mut self, frame: u32, word: u32, value: u32)
@@ -119,8 +127,7 @@ impl Memory {
         ensures whole_frames { AreWholeFrames self.old }
     {
         let boot = self.boot.count();
-        let first = boot + self.a.count();
-        let _own = self.b.count();
+        let first = self.frame_count() - self.b.count();
         (
             DeadWords::new(&self.boot, &self.a, boot),
             OwnWords {
@@ -139,8 +146,7 @@ impl Memory {
         ensures whole_frames { AreWholeFrames self.old }
     {
         let first = self.boot.count();
-        let behind = first + self.a.count();
-        let _read = self.b.count();
+        let behind = self.frame_count() - self.b.count();
         (
             DeadWords::new(&self.boot, &self.b, behind),
             OwnWords {
