@@ -60,14 +60,14 @@ module _ (m : MemoryParts) (dead : AreaId) (rest : WordMap) (from to : ℕ) (old
     copied_lent own fits =
         let source : rest from w ≡ words_of m from w = ap (λ (words : WordMap). words from w) copy.rest_is ∙ words_beside-rest m dead from w copy.from_rest in
         let before : words_lent old f w ≡ words_of m f w =
-            ap (λ (xs : List ℕ). words_from old.first xs f w) copy.own_words
-            ∙ ap (λ (k : ℕ). words_from k (own_half m dead) f w) copy.own_frames
-            ∙ sym (words_of-own_half m dead f w copy.framed own fits) in
+        ap (λ (xs : List ℕ). words_from old.first xs f w) copy.own_words
+        ∙ ap (λ (k : ℕ). words_from k (own_half m dead) f w) copy.own_frames
+        ∙ sym (words_of-own_half m dead f w copy.framed own fits) in
         copied_own own fits ∙ by_test (λ (k : ℕ). words_of m k w) from f (f == to) source before
 
     pub copied_words : words_of (with_own m dead ws) f w ≡ words_of m (if f == to then from else f) w
     copied_words =
         elim (cases_lt w 1024) [
-          inl fits ↦ elim (cases_Bool (is_own m dead f)) [ inl own ↦ copied_lent own fits | inr rest ↦ copied_rest rest fits ]
-        | inr past ↦ words_of-past (with_own m dead ws) f w past ∙ sym (words_of-past m (if f == to then from else f) w past)
+          | inl fits ↦ elim (cases_Bool (is_own m dead f)) [ inl own ↦ copied_lent own fits | inr rest ↦ copied_rest rest fits ]
+          | inr past ↦ words_of-past (with_own m dead ws) f w past ∙ sym (words_of-past m (if f == to then from else f) w past)
         ]

@@ -51,8 +51,8 @@ by_frame : (w f first half count x y z : ℕ) → w < 1024 → first + half ≤ 
     → (first ≤ f → f < first + half → x ≡ z) → (f < first → x ≡ y) → (first + half ≤ f → f < count → x ≡ y)
     → (if nat_lt w 1024 && nat_lt f count then Some x else None)
     ≡ (if not (nat_lt f first) && nat_lt f (first + half)
-       then (if nat_lt w 1024 && (not (nat_lt f first) && nat_lt f (first + half)) then Some z else None)
-       else (if nat_lt w 1024 && nat_lt f count then Some y else None))
+    then (if nat_lt w 1024 && (not (nat_lt f first) && nat_lt f (first + half)) then Some z else None)
+    else (if nat_lt w 1024 && nat_lt f count then Some y else None))
 by_frame w f first half count x y z fits room own before behind = grind (arith, nat_tests)
 
 -- with as many other words in the half that is not dead, its frames have these, and all other frames what they had
@@ -67,9 +67,9 @@ words_of-own m A ws f w framed same fits =
     let count : frame_count new ≡ frame_count m = grind (arith, length-append {A = ℕ}) in
     let size : frame_count m ≡ first + length m.b / 1024 = omega (arith, length-append m.boot (m.a ++ m.b), length-append m.a m.b) in
     rw (count, same) (by_frame w f first (length m.b / 1024) (frame_count m) _ _ _ fits (omega arith)
-        (λ from below. nth-third m.boot m.a ws i (omega arith) ∙ ap (λ k. slice_index ws k) (omega arith))
-        (λ below. nth-before_third m.boot m.a ws m.b i (omega arith))
-        (λ behind there. absurd (omega arith)))
+    (λ from below. nth-third m.boot m.a ws i (omega arith) ∙ ap (λ k. slice_index ws k) (omega arith))
+    (λ below. nth-before_third m.boot m.a ws m.b i (omega arith))
+    (λ behind there. absurd (omega arith)))
 words_of-own m B ws f w framed same fits =
     let new : MemoryParts = record m { a = ws } in
     let i : ℕ = 1024 * f + w in
@@ -79,9 +79,9 @@ words_of-own m B ws f w framed same fits =
     let count : frame_count new ≡ frame_count m = grind (arith, length-append {A = ℕ}) in
     let size : first + length m.a / 1024 ≤ frame_count m = omega (arith, length-append m.boot (m.a ++ m.b), length-append m.a m.b) in
     rw (count, same) (by_frame w f first (length m.a / 1024) (frame_count m) _ _ _ fits size
-        (λ from below. nth-second m.boot ws m.b i (omega arith) (omega arith) ∙ ap (λ k. slice_index ws k) (omega arith))
-        (λ below. nth-outside_second m.boot ws m.a m.b i same (inl (omega arith)))
-        (λ behind there. nth-outside_second m.boot ws m.a m.b i same (inr (omega arith))))
+    (λ from below. nth-second m.boot ws m.b i (omega arith) (omega arith) ∙ ap (λ k. slice_index ws k) (omega arith))
+    (λ below. nth-outside_second m.boot ws m.a m.b i same (inl (omega arith)))
+    (λ behind there. nth-outside_second m.boot ws m.a m.b i same (inr (omega arith))))
 
 -- so the words that are read beside it are as they were
 pub words_beside-own : (m : MemoryParts) (dead : AreaId) (ws : List ℕ) → AreWholeFrames m → length ws ≡ length (own_half m dead)
@@ -97,8 +97,21 @@ unfolding with_word
 with_own-set m A f w v framed own fits = grind (arith, nat_tests, framed.boot, framed.a)
 with_own-set m B f w v framed own fits = grind (arith, nat_tests, framed.boot, framed.a)
 
-pub AreWholeFrames-sized : (u : ℕ) (m : MemoryParts) → IsSized u m → AreWholeFrames m
-AreWholeFrames-sized u m s = record { boot = omega (arith, s.boot); a = omega (arith, s.a); b = omega (arith, s.b) }
+module _ {u : ℕ} {m : MemoryParts} (sized : IsSized u m) where
+  pub AreWholeFrames-sized : AreWholeFrames m
+  AreWholeFrames-sized = record { boot = omega (arith, sized.boot); a = omega (arith, sized.a); b = omega (arith, sized.b) }
+
+  -- half A begins behind the boot frame, and half B behind half A
+  pub first_own-sized_a : first_own m A ≡ 129 + u
+  first_own-sized_a = omega (arith, sized.boot, sized.a)
+
+  pub first_own-sized_b : first_own m B ≡ 1
+  first_own-sized_b = omega (arith, sized.boot)
+
+  -- and each has so many frames
+  pub own_half-sized : (dead : AreaId) → length (own_half m dead) / 1024 ≡ 128 + u
+  own_half-sized A = omega (arith, sized.b)
+  own_half-sized B = omega (arith, sized.a)
 
 -- a frame that is not of that half has its words
 pub words_beside-rest : (m : MemoryParts) (dead : AreaId) (f w : ℕ) → is_own m dead f ≡ false → words_beside m dead f w ≡ words_of m f w

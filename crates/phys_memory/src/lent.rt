@@ -85,7 +85,8 @@ impl OwnWords<'_> {
         ensures first { self.new.first ≡ self.old.first }
         ensures place { self.new.words.ghost_name ≡ self.old.words.ghost_name }
     {
-        self.words.set_word(frame as usize - self.first, word, value);
+        self.words
+            .set_word(frame as usize - self.first, word, value);
     }
 
     /// Copies a frame of a source over one of this half, which has its number in memory. No other word changes.
