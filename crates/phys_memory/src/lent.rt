@@ -85,11 +85,11 @@ impl OwnWords<'_> {
         ensures first { self.new.first ≡ self.old.first }
         ensures place { self.new.words.ghost_name ≡ self.old.words.ghost_name }
     {
-        self.words
-            .set_word(frame as usize - self.first, word, value);
+        let frame = frame as usize - self.first;
+        self.words.set_word(frame, word, value);
     }
 
-    /// Copies a frame of a source over one of this half, which has its number in memory. No other word changes.
+    /// Copies a frame that a source has over one of this half, by its number in memory. No other word changes.
     pub fn copy_frame<W: WordSource>(&mut self, source: &W, from: u32, to: u32)
         requires from { (word : ℕ) → word < 1024 → is_some (W.words source.now from word) ≡ true }
         requires to { is_among self.old.first self.old.words.now to ≡ true }

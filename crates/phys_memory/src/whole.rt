@@ -102,8 +102,8 @@ impl Memory {
         }
     }
 
-    /// Copies a frame that is not of the half beside `dead` over one that is, as a kernel does that takes over from
-    /// a dead one. No other word changes.
+    /// Copies a frame over one of the half that is not `dead`, from the rest of memory, as a kernel does with the
+    /// pages of a dead one. No other word changes.
     pub fn copy_frame(&mut self, dead: AreaId, from: u32, to: u32)
         requires from { from < frame_count self.old }
         requires from_rest { is_own self.old dead from ≡ false }
