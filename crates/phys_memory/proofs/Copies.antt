@@ -1,16 +1,13 @@
 -- Frames that are copied word by word.
-use Rattle.std.proofs.Common.{◌≡◌, ℕ, ◌+◌, ◌-◌, ◌*◌, ◌/◌, ◌<◌, ◌≤◌, Bool, true, false, nat_lt, not, ◌==◌, ◌&&◌, if◌then◌else◌, List, length, slice_index, slice_set, Option, Some, None, refl, sym, ap, ◌∙◌, inl, inr, arith}
-use Rattle.std.proofs.lemmas.Grind.{common_steps, get_or-set_at}
+use Rattle.std.proofs.Common.{◌≡◌, ℕ, ◌<◌, Bool, true, false, nat_lt, ◌==◌, ◌&&◌, if◌then◌else◌, List, length, Option, sym, ap, ◌∙◌, inl, inr}
 use Rattle.std.proofs.lemmas.Bool.{cases_lt, cases_Bool, ne_eqb, false≢true}
-use Rattle.std.proofs.lemmas.Bool.Decides.{nat_tests}
-use Rattle.std.proofs.lemmas.List.{length-set, get_or-set_other}
 use Rattle.ow_base.specs.Sv32.{WordMap}
 use Rattle.ow_base.specs.declared.machine.AreaId.{AreaId}
 use Rattle.phys_memory.specs.Memory.{MemoryParts, AreWholeFrames, words_of}
-use Rattle.phys_memory.specs.Halves.{is_among, is_own, own_half, first_own, with_own, words_beside}
+use Rattle.phys_memory.specs.Halves.{is_own, own_half, first_own, with_own, words_beside}
 use Rattle.phys_memory.specs.Reading.{words_lent, words_from}
 use Rattle.phys_memory.specs.declared.lent.OwnWords.{OwnWords}
-use Rattle.phys_memory.proofs.Words.{nth-set, words_of-past}
+use Rattle.phys_memory.proofs.Words.{words_of-past}
 use Rattle.phys_memory.proofs.Own.{words_of-own, words_beside-rest, words_of-own_half}
 
 -- so many words of a frame are copied, and nothing else has changed

@@ -1,12 +1,12 @@
 -- What is read beside a half that is lent.
-use Rattle.std.proofs.Common.{◌≡◌, ◌≢◌, ℕ, ◌+◌, ◌-◌, ◌*◌, ◌/◌, ◌<◌, ◌≤◌, ◌⊎◌, Bool, true, false, nat_lt, not, ◌==◌, ◌&&◌, if◌then◌else◌, List, ◌++◌, length, slice_index, slice_set, Option, Some, None, refl, sym, ap, ◌∙◌, arith, inl, inr, append_assoc, length-append}
+use Rattle.std.proofs.Common.{◌≡◌, ℕ, ◌+◌, ◌-◌, ◌*◌, ◌/◌, ◌<◌, ◌≤◌, ◌⊎◌, true, false, nat_lt, not, ◌&&◌, if◌then◌else◌, List, ◌++◌, length, slice_index, slice_set, Some, None, refl, sym, ap, ◌∙◌, arith, inl, inr, length-append}
 use Rattle.std.proofs.Math.Path.{fun_ext}
 use Rattle.std.proofs.lemmas.Grind.{common_steps}
 use Rattle.std.proofs.lemmas.Bool.Decides.{nat_tests}
 use Rattle.std.proofs.lemmas.List.{get_or_append_left, get_or-append_right}
 use Rattle.ow_base.specs.declared.machine.AreaId.{AreaId}
 use Rattle.ow_base.specs.declared.machine.AreaId.TheVariants.{A, B}
-use Rattle.phys_memory.specs.Memory.{MemoryParts, AreWholeFrames, IsSized, whole, frame_count, words_of, with_word}
+use Rattle.phys_memory.specs.Memory.{MemoryParts, AreWholeFrames, IsSized, frame_count, words_of, with_word}
 use Rattle.phys_memory.proofs.Words.{words_of-past}
 use Rattle.phys_memory.specs.Halves.{words_beside, first_own, own_half, with_own, is_own}
 use Rattle.phys_memory.specs.Reading.{words_read, words_from}

@@ -1,8 +1,8 @@
 -- What words memory has.
-use Rattle.std.proofs.Common.{◌≡◌, ◌≢◌, ℕ, ◌+◌, ◌-◌, ◌*◌, ◌/◌, ◌<◌, ◌≤◌, Bool, true, false, nat_lt, ◌==◌, ◌&&◌, if◌then◌else◌, List, ◌++◌, length, slice_index, slice_set, Option, Some, None, is_some, refl, sym, ap, ◌∙◌, arith, append_assoc, length-append}
+use Rattle.std.proofs.Common.{◌≡◌, ℕ, ◌+◌, ◌-◌, ◌*◌, ◌<◌, ◌≤◌, true, ◌==◌, ◌&&◌, if◌then◌else◌, List, ◌++◌, length, slice_index, slice_set, Some, None, is_some, refl, arith}
 use Rattle.std.proofs.lemmas.Grind.{common_steps, get_or-set_at}
 use Rattle.std.proofs.lemmas.Bool.Decides.{nat_tests}
-use Rattle.std.proofs.lemmas.List.{length-set, length-replicate, get_or-replicate, replicate-append-replicate, get_or-set_same, get_or-set_other, set-append_left, set-append_right, set_past}
+use Rattle.std.proofs.lemmas.List.{length-set, length-replicate, get_or-replicate, replicate-append-replicate, get_or-set_other, set-append_left, set-append_right}
 use Rattle.phys_memory.specs.Memory.{MemoryParts, whole, frame_count, words_of, with_nth, with_word, IsSized, blank_frames, zeroed}
 
 -- a word that is set in its part is set in the whole

@@ -1,5 +1,5 @@
 -- Memory: frames of 1,024 words in one numbering, the boot frame first, then the frames of half A, then those of half B.
-use Rattle.std.specs.Prelude.{◌≡◌, ℕ, ◌+◌, ◌-◌, ◌*◌, ◌/◌, ◌%◌, Bool, nat_lt, ◌&&◌, if◌then◌else◌, List, ◌++◌, length, replicate, slice_index, slice_set, Option, Some, None}
+use Rattle.std.specs.Prelude.{◌≡◌, ℕ, ◌+◌, ◌-◌, ◌*◌, ◌/◌, ◌%◌, nat_lt, ◌&&◌, if◌then◌else◌, List, ◌++◌, length, replicate, slice_index, slice_set, Some, None}
 use Rattle.ow_base.specs.Sv32.{WordMap}
 
 -- the words of the boot frame and of the two halves

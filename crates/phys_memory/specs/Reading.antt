@@ -1,5 +1,5 @@
 -- The words of a half that is lent, and those that are read beside it.
-use Rattle.std.specs.Prelude.{◌≡◌, ℕ, ◌+◌, ◌-◌, ◌*◌, ◌/◌, Bool, nat_lt, ◌&&◌, if◌then◌else◌, List, length, slice_index, Option, Some, None}
+use Rattle.std.specs.Prelude.{ℕ, ◌+◌, ◌-◌, ◌*◌, nat_lt, ◌&&◌, if◌then◌else◌, List, slice_index, Option, Some, None}
 use Rattle.ow_base.specs.Sv32.{WordMap}
 use Rattle.phys_memory.specs.Halves.{is_among}
 use Rattle.phys_memory.specs.declared.lent.DeadWords.{DeadWords}

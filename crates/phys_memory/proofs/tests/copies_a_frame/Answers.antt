@@ -1,6 +1,6 @@
-use Rattle.std.proofs.Common.{◌≡◌, ℕ, ◌<◌, true, false, refl, sym, subst, arith}
+use Rattle.std.proofs.Common.{refl, sym, subst, arith}
 use Rattle.ow_base.specs.declared.machine.AreaId.TheVariants.{A}
-use Rattle.phys_memory.specs.Memory.{IsSized, frame_count}
+use Rattle.phys_memory.specs.Memory.{IsSized}
 use Rattle.phys_memory.proofs.Words.{IsSized-zeroed, IsSized-set, frame_count-sized}
 use Rattle.phys_memory.proofs.Own.{first_own-sized_a, own_half-sized}
 use Rattle.phys_memory.proofs.tests.copies_a_frame.Goals as goal

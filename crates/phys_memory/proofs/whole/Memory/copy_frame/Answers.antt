@@ -1,8 +1,6 @@
-use Rattle.std.proofs.Common.{rules, ◌≡◌, ℕ, ◌+◌, ◌/◌, ◌<◌, ◌==◌, if◌then◌else◌, is_some, length, true, refl, sym, ap, ◌∙◌, arith}
-use Rattle.std.proofs.lemmas.Grind.{common_steps}
-use Rattle.std.proofs.lemmas.Bool.Decides.{nat_tests}
+use Rattle.std.proofs.Common.{rules, is_some, ap, ◌∙◌}
 use Rattle.phys_memory.specs.Reading.{words_read}
-use Rattle.phys_memory.proofs.Words.{words_of-some, words_of-past}
+use Rattle.phys_memory.proofs.Words.{words_of-some}
 use Rattle.phys_memory.proofs.Own.{words_beside-rest}
 use Rattle.phys_memory.proofs.Copies.{copied_words}
 use Rattle.phys_memory.proofs.whole.Memory.copy_frame.Goals as goal

@@ -1,4 +1,4 @@
-use Rattle.std.proofs.Common.{◌≡◌, ◌+◌, ◌-◌, ◌++◌, ◌/◌, ◌*◌, List, sym, ap, subst, ◌∙◌, refl, length, length-append, arith}
+use Rattle.std.proofs.Common.{◌≡◌, ◌+◌, ◌-◌, ◌++◌, ◌/◌, ◌*◌, sym, ap, subst, ◌∙◌, refl, length, length-append, arith}
 use Rattle.phys_memory.specs.Memory.{MemoryParts, AreWholeFrames, frame_count}
 use Rattle.phys_memory.proofs.Own.{beside_a}
 use Rattle.phys_memory.proofs.whole.Memory.lend_a.Goals as goal
