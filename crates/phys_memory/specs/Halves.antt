@@ -5,21 +5,17 @@ use Rattle.ow_base.specs.declared.machine.AreaId.{AreaId}
 use Rattle.ow_base.specs.declared.machine.AreaId.TheVariants.{A, B}
 use Rattle.phys_memory.specs.Memory.{MemoryParts, words_of}
 
--- the words of the half that is dead, and of the other one
-abbrev pub dead_half : MemoryParts → (dead : AreaId) → List ℕ
-dead_half m A = m.a
-dead_half m B = m.b
-
+-- the words of the half that is not dead
 abbrev pub own_half : MemoryParts → (dead : AreaId) → List ℕ
 own_half m A = m.b
 own_half m B = m.a
 
--- how many words lie before the other half
+-- how many words lie before that half
 abbrev pub words_before : MemoryParts → (dead : AreaId) → ℕ
 words_before m A = length m.boot + length m.a
 words_before m B = length m.boot
 
--- the number of the first frame of the other half
+-- the number of its first frame
 abbrev pub first_own : MemoryParts → (dead : AreaId) → ℕ
 first_own m dead = words_before m dead / 1024
 
@@ -27,7 +23,7 @@ first_own m dead = words_before m dead / 1024
 abbrev pub is_among : (first : ℕ) → (words : List ℕ) → (frame : ℕ) → Bool
 is_among first words frame = not (nat_lt frame first) && nat_lt frame (first + length words / 1024)
 
--- whether it is a frame of the half that is not dead
+-- whether a frame is of the half that is not dead
 abbrev pub is_own : MemoryParts → (dead : AreaId) → (frame : ℕ) → Bool
 is_own m dead frame = is_among (first_own m dead) (own_half m dead) frame
 
