@@ -1,3 +1,4 @@
 -- Lemmas of memory.
 pub mod Words
-pub mod Beside
+pub mod Own
+pub mod Copies

@@ -1,8 +1,8 @@
 -- What words memory has.
-use Rattle.std.proofs.Common.{◌≡◌, ◌≢◌, ℕ, ◌+◌, ◌-◌, ◌*◌, ◌/◌, ◌<◌, ◌≤◌, Bool, true, false, nat_lt, ◌==◌, ◌&&◌, if◌then◌else◌, List, ◌++◌, length, slice_index, slice_set, Option, Some, None, is_some, refl, sym, ap, ◌∙◌, arith, append_assoc, length-append}
+use Rattle.std.proofs.Common.{◌≡◌, ℕ, ◌+◌, ◌-◌, ◌*◌, ◌<◌, ◌≤◌, true, ◌==◌, ◌&&◌, if◌then◌else◌, List, ◌++◌, length, slice_index, slice_set, Some, None, is_some, refl, arith}
 use Rattle.std.proofs.lemmas.Grind.{common_steps, get_or-set_at}
 use Rattle.std.proofs.lemmas.Bool.Decides.{nat_tests}
-use Rattle.std.proofs.lemmas.List.{length-set, length-replicate, get_or-replicate, replicate-append-replicate, get_or-set_same, get_or-set_other, set-append_left, set-append_right, set_past}
+use Rattle.std.proofs.lemmas.List.{length-set, length-replicate, get_or-replicate, replicate-append-replicate, get_or-set_other, set-append_left, set-append_right}
 use Rattle.phys_memory.specs.Memory.{MemoryParts, whole, frame_count, words_of, with_nth, with_word, IsSized, blank_frames, zeroed}
 
 -- a word that is set in its part is set in the whole
@@ -14,7 +14,7 @@ unfolding with_word
 frame_count-set m f w v = rw (whole-set m (1024 * f + w) v, length-set)
 
 -- a word is set at its place, and at no other
-nth-set : (xs : List ℕ) (f w v f' w' : ℕ) → 1024 * f + w < length xs → w < 1024 → w' < 1024
+pub nth-set : (xs : List ℕ) (f w v f' w' : ℕ) → 1024 * f + w < length xs → w < 1024 → w' < 1024
     → slice_index (slice_set xs (1024 * f + w) v) (1024 * f' + w') ≡ (if f' == f && w' == w then v else slice_index xs (1024 * f' + w'))
 nth-set xs f w v f' w' there fits fits' = grind (arith, nat_tests, get_or-set_at, get_or-set_other {A = ℕ})
 
@@ -48,6 +48,10 @@ IsSized-zeroed u = record {
 pub words_of-none : (m : MemoryParts) (f w : ℕ) → frame_count m ≤ f → words_of m f w ≡ None
 unfolding words_of
 words_of-none m f w past = grind (arith, nat_tests)
+
+pub words_of-past : (m : MemoryParts) (f w : ℕ) → 1024 ≤ w → words_of m f w ≡ None
+unfolding words_of
+words_of-past m f w past = grind (arith, nat_tests)
 
 pub words_of-some : (m : MemoryParts) (f w : ℕ) → f < frame_count m → w < 1024 → is_some (words_of m f w) ≡ true
 unfolding words_of

@@ -1,28 +1,29 @@
 -- The two halves of memory while one kernel is dead: its half is only read, and the other half is written.
-use Rattle.std.specs.Prelude.{◌≡◌, ℕ, ◌+◌, ◌-◌, ◌*◌, ◌/◌, ◌<◌, ◌≤◌, Bool, nat_lt, not, ◌&&◌, if◌then◌else◌, List, length, slice_index, Option, Some, None}
+use Rattle.std.specs.Prelude.{ℕ, ◌+◌, ◌/◌, Bool, nat_lt, not, ◌&&◌, if◌then◌else◌, List, length, None}
 use Rattle.ow_base.specs.Sv32.{WordMap}
 use Rattle.ow_base.specs.declared.machine.AreaId.{AreaId}
 use Rattle.ow_base.specs.declared.machine.AreaId.TheVariants.{A, B}
 use Rattle.phys_memory.specs.Memory.{MemoryParts, words_of}
 
--- the words of the half that is dead, and of the other one
-abbrev pub dead_half : MemoryParts → (dead : AreaId) → List ℕ
-dead_half m A = m.a
-dead_half m B = m.b
-
+-- the words of the half that is not dead
 abbrev pub own_half : MemoryParts → (dead : AreaId) → List ℕ
 own_half m A = m.b
 own_half m B = m.a
 
--- the number of the first frame of the other half
+-- how many words lie before that half
+abbrev pub words_before : MemoryParts → (dead : AreaId) → ℕ
+words_before m A = length m.boot + length m.a
+words_before m B = length m.boot
+
+-- the number of its first frame
 abbrev pub first_own : MemoryParts → (dead : AreaId) → ℕ
-first_own m A = length m.boot / 1024 + length m.a / 1024
-first_own m B = length m.boot / 1024
+first_own m dead = words_before m dead / 1024
 
 -- whether a frame is among those that lie one behind the other from a first one on
 abbrev pub is_among : (first : ℕ) → (words : List ℕ) → (frame : ℕ) → Bool
 is_among first words frame = not (nat_lt frame first) && nat_lt frame (first + length words / 1024)
 
+-- whether a frame is of the half that is not dead
 abbrev pub is_own : MemoryParts → (dead : AreaId) → (frame : ℕ) → Bool
 is_own m dead frame = is_among (first_own m dead) (own_half m dead) frame
 

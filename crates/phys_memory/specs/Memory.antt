@@ -1,5 +1,5 @@
 -- Memory: frames of 1,024 words in one numbering, the boot frame first, then the frames of half A, then those of half B.
-use Rattle.std.specs.Prelude.{◌≡◌, ℕ, ◌+◌, ◌-◌, ◌*◌, ◌/◌, Bool, nat_lt, ◌&&◌, if◌then◌else◌, List, ◌++◌, length, replicate, slice_index, slice_set, Option, Some, None}
+use Rattle.std.specs.Prelude.{◌≡◌, ℕ, ◌+◌, ◌-◌, ◌*◌, ◌/◌, ◌%◌, nat_lt, ◌&&◌, if◌then◌else◌, List, ◌++◌, length, replicate, slice_index, slice_set, Some, None}
 use Rattle.ow_base.specs.Sv32.{WordMap}
 
 -- the words of the boot frame and of the two halves
@@ -29,6 +29,12 @@ with_nth m at value =
 -- the parts with one word of a frame set
 unfoldable pub with_word : MemoryParts → (frame word value : ℕ) → MemoryParts
 with_word m frame word value = with_nth m (1024 * frame + word) value
+
+-- each part is made of whole frames
+pub record AreWholeFrames (m : MemoryParts) : Type 0 where
+  pub boot : length m.boot % 1024 ≡ 0
+  pub a : length m.a % 1024 ≡ 0
+  pub b : length m.b % 1024 ≡ 0
 
 -- a boot frame, and in each half the area, the cache frames and so many user frames
 pub record IsSized (user_frames : ℕ) (m : MemoryParts) : Type 0 where

@@ -1,8 +1,9 @@
--- The words that are read beside a half that is lent.
-use Rattle.std.specs.Prelude.{◌≡◌, ℕ, ◌+◌, ◌-◌, ◌*◌, ◌/◌, Bool, nat_lt, ◌&&◌, if◌then◌else◌, List, length, slice_index, Option, Some, None}
+-- The words of a half that is lent, and those that are read beside it.
+use Rattle.std.specs.Prelude.{ℕ, ◌+◌, ◌-◌, ◌*◌, nat_lt, ◌&&◌, if◌then◌else◌, List, slice_index, Option, Some, None}
 use Rattle.ow_base.specs.Sv32.{WordMap}
 use Rattle.phys_memory.specs.Halves.{is_among}
 use Rattle.phys_memory.specs.declared.lent.DeadWords.{DeadWords}
+use Rattle.phys_memory.specs.declared.lent.OwnWords.{OwnWords}
 
 -- the words of frames that lie one behind the other, the first of which has this number
 abbrev pub words_from : (first : ℕ) → (words : List ℕ) → WordMap
@@ -16,3 +17,7 @@ or_else None other = other
 -- the words of the boot frame and of the half that is read
 unfoldable pub words_read : DeadWords → WordMap
 words_read d frame word = or_else (words_from 0 d.boot.now frame word) (words_from d.first d.half.now frame word)
+
+-- the words of the half that is written
+abbrev pub words_lent : OwnWords → WordMap
+words_lent own = words_from own.first own.words.now

@@ -1,7 +1,7 @@
 //! The two halves of memory while one of them is lent for writing.
-ghost use Rattle.std.specs.Prelude.{◌≡◌, ℕ, ◌+◌, ◌-◌, ◌*◌, ◌<◌, true, slice_index, slice_set};
+ghost use Rattle.std.specs.Prelude.{◌≡◌, ℕ, ◌+◌, ◌-◌, ◌*◌, ◌<◌, ◌==◌, if◌then◌else◌, true, is_some, length, slice_index, slice_set};
 ghost use Rattle.phys_memory.specs.Halves.{is_among};
-ghost use Rattle.phys_memory.specs.Reading.{words_read};
+ghost use Rattle.phys_memory.specs.Reading.{words_lent, words_read};
 
 use crate::frames::Frames;
 use ow_base::WordSource;
@@ -59,13 +59,20 @@ pub struct OwnWords<'a> {
 }
 
 impl OwnWords<'_> {
+    /// Whether a frame, by its number in memory, is one of this half.
+    pub fn has_frame(&self, frame: u32) -> bool
+        ensures { result ≡ is_among self.now.first self.now.words.now frame }
+    {
+        let frame = frame as usize;
+        frame >= self.first && frame - self.first < self.words.count()
+    }
+
     /// The word of a frame of this half, by the frame's number in memory, at a place below 1,024.
     pub fn load(&self, frame: u32, word: u32) -> u32
         requires word { word < 1024 }
         requires frame { is_among self.now.first self.now.words.now frame ≡ true }
         ensures { result ≡ slice_index self.now.words.now (1024 * (frame - self.now.first) + word) }
     {
-        let _count = self.words.count();
         self.words.word(frame as usize - self.first, word)
     }
 
@@ -78,7 +85,23 @@ impl OwnWords<'_> {
         ensures first { self.new.first ≡ self.old.first }
         ensures place { self.new.words.ghost_name ≡ self.old.words.ghost_name }
     {
-        let _count = self.words.count();
-        self.words.set_word(frame as usize - self.first, word, value);
+        let frame = frame as usize - self.first;
+        self.words.set_word(frame, word, value);
+    }
+
+    /// Copies a frame that a source has over one of this half, by its number in memory. No other word changes.
+    pub fn copy_frame<W: WordSource>(&mut self, source: &W, from: u32, to: u32)
+        requires from { (word : ℕ) → word < 1024 → is_some (W.words source.now from word) ≡ true }
+        requires to { is_among self.old.first self.old.words.now to ≡ true }
+        ensures words { (frame : ℕ) → (word : ℕ) → word < 1024 → words_lent self.new frame word ≡ (if frame == to then W.words source.now from word else words_lent self.old frame word) }
+        ensures length { length self.new.words.now ≡ length self.old.words.now }
+        ensures first { self.new.first ≡ self.old.first }
+        ensures place { self.new.words.ghost_name ≡ self.old.words.ghost_name }
+    {
+        for word in 0..1024 {
+            if let Some(value) = source.load(from, word) {
+                self.store(to, word, value);
+            }
+        }
     }
 }

@@ -1,8 +1,8 @@
 //! Memory as a whole.
-ghost use Rattle.std.specs.Prelude.{◌≡◌, ℕ, ◌<◌, ◌≤◌, [], IfOk};
+ghost use Rattle.std.specs.Prelude.{◌≡◌, ℕ, ◌<◌, ◌≤◌, ◌==◌, if◌then◌else◌, true, false, [], length, IfOk};
 ghost use Rattle.std.specs.Borrow.{sem};
-ghost use Rattle.phys_memory.specs.Memory.{frame_count, words_of, with_word, zeroed};
-ghost use Rattle.phys_memory.specs.Halves.{first_own, own_half, words_beside};
+ghost use Rattle.phys_memory.specs.Memory.{AreWholeFrames, frame_count, words_of, with_word, zeroed};
+ghost use Rattle.phys_memory.specs.Halves.{first_own, is_own, own_half, with_own, words_beside};
 ghost use Rattle.phys_memory.specs.Lending.{LendsOwn};
 ghost use Rattle.phys_memory.specs.Reading.{words_read};
 
@@ -56,6 +56,14 @@ impl Memory {
         Ok(Memory { boot, a, b })
     }
 
+    /// How many frames there are in all.
+    pub fn frame_count(&self) -> usize
+        ensures count { result ≡ frame_count self.now }
+        ensures whole_frames { AreWholeFrames self.now }
+    {
+        self.boot.count() + self.a.count() + self.b.count()
+    }
+
     /// Writes the word of a frame that is there, at a place below 1,024. No other word changes.
     #[tactic(auto, unfolding(crate::specs::Memory::with_word))]
     pub fn store(&mut self, frame: u32, word: u32, value: u32)
@@ -74,7 +82,6 @@ impl Memory {
         if frame < a {
             self.a.set_word(frame, word, value);
         } else {
-            let _b = self.b.count();
             self.b.set_word(frame - a, word, value);
         }
     }
@@ -87,11 +94,28 @@ impl Memory {
         ensures dead_words { words_read result.0 ≡ words_beside self.old dead }
         ensures own_words { result.1.words.now ≡ own_half self.old dead }
         ensures own_frames { result.1.first ≡ first_own self.old dead }
+        ensures whole_frames { AreWholeFrames self.old }
     {
         match dead {
             AreaId::A => self.lend_b(),
             AreaId::B => self.lend_a(),
         }
+    }
+
+    /// Copies a frame over one of the half that is not `dead`, from the rest of memory, as a kernel does with the
+    /// pages of a dead one. No other word changes.
+    pub fn copy_frame(&mut self, dead: AreaId, from: u32, to: u32)
+        requires from { from < frame_count self.old }
+        requires from_rest { is_own self.old dead from ≡ false }
+        requires to { is_own self.old dead to ≡ true }
+        ensures words { (frame : ℕ) → (word : ℕ) → words_of self.new frame word ≡ words_of self.old (if frame == to then from else frame) word }
+        ensures rest { self.new ≡ with_own self.old dead (own_half self.new dead) }
+        ensures length { length (own_half self.new dead) ≡ length (own_half self.old dead) }
+    {
+        let (rest, own) = self.split(dead);
+        let OwnWords { words, first } = own;
+        let mut own = OwnWords { words, first };
+        own.copy_frame(&rest, from, to);
     }
 
     /// Lends half B for writing, and the rest for reading.
@@ -100,9 +124,10 @@ impl Memory {
         ensures dead_words { words_read result.0 ≡ words_beside self.old AreaId.A }
         ensures own_words { result.1.words.now ≡ own_half self.old AreaId.A }
         ensures own_frames { result.1.first ≡ first_own self.old AreaId.A }
+        ensures whole_frames { AreWholeFrames self.old }
     {
         let boot = self.boot.count();
-        let first = boot + self.a.count();
+        let first = self.frame_count() - self.b.count();
         (
             DeadWords::new(&self.boot, &self.a, boot),
             OwnWords {
@@ -118,9 +143,10 @@ impl Memory {
         ensures dead_words { words_read result.0 ≡ words_beside self.old AreaId.B }
         ensures own_words { result.1.words.now ≡ own_half self.old AreaId.B }
         ensures own_frames { result.1.first ≡ first_own self.old AreaId.B }
+        ensures whole_frames { AreWholeFrames self.old }
     {
         let first = self.boot.count();
-        let behind = first + self.a.count();
+        let behind = self.frame_count() - self.b.count();
         (
             DeadWords::new(&self.boot, &self.b, behind),
             OwnWords {

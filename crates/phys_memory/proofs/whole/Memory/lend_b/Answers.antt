@@ -1,18 +1,25 @@
-use Rattle.std.proofs.Common.{◌≡◌, ℕ, ◌+◌, List, refl, sym, ap, ◌∙◌, length, arith}
-use Rattle.phys_memory.specs.Memory.{MemoryParts}
-use Rattle.phys_memory.proofs.Beside.{beside_b}
+use Rattle.std.proofs.Common.{◌≡◌, ◌+◌, ◌-◌, ◌++◌, ◌/◌, ◌*◌, sym, ap, subst, ◌∙◌, refl, length, length-append, arith}
+use Rattle.phys_memory.specs.Memory.{MemoryParts, AreWholeFrames, frame_count}
+use Rattle.phys_memory.proofs.Own.{beside_b}
 use Rattle.phys_memory.proofs.whole.Memory.lend_b.Goals as goal
 
 pub returns : goal.returns
 returns c =
-    let boot : c.self.inside.boot ≡ c.args.self.now.boot = ap (λ (m : MemoryParts). m.boot) c.self.view_is in
-    let a : c.self.inside.a ≡ c.args.self.now.a = ap (λ (m : MemoryParts). m.a) c.self.view_is in
-    let b : c.self.inside.b ≡ c.args.self.now.b = ap (λ (m : MemoryParts). m.b) c.self.view_is in
-    let whole_boot = ap (length {A = ℕ}) (sym boot) ∙ c.count-boot.ensures.count in
-    let whole_a = ap (length {A = ℕ}) (sym a) ∙ c.count.ensures.count in
-    ((refl, λ w. ap (λ (m : MemoryParts). record m { b = w }) c.self.view_is), record {
-      lends = tt;
-      dead_words = beside_b c.args.self.now c.new.result c.count-boot.result c.count.result (c.new.ensures.boot ∙ boot) whole_boot whole_a (c.new.ensures.half ∙ a) c.new.ensures.first;
-      own_words = b;
-      own_frames = omega (arith, whole_boot, whole_a);
-    })
+    let m : MemoryParts = c.args.self.now in
+    let framed : AreWholeFrames m = subst AreWholeFrames c.self.view_is c.frame_count.ensures.whole_frames in
+    let count : c.frame_count.result ≡ frame_count m = c.frame_count.ensures.count ∙ ap frame_count c.self.view_is in
+    let boot : length m.boot ≡ 1024 * c.count-boot.result = ap (λ (n : MemoryParts). length n.boot) (sym c.self.view_is) ∙ c.count-boot.ensures.count in
+    let b : length m.b ≡ 1024 * c.count.result = ap (λ (n : MemoryParts). length n.b) (sym c.self.view_is) ∙ c.count.ensures.count in
+    let behind : c.frame_count.result - c.count.result ≡ (length m.boot + length m.a) / 1024 =
+    omega (arith, count, framed.boot, framed.a, length-append m.boot (m.a ++ m.b), length-append m.a m.b) in
+    let before : c.count-boot.result ≡ length m.boot / 1024 = omega arith in (
+      (refl, λ w. ap (λ (n : MemoryParts). record n { b = w }) c.self.view_is),
+      record {
+        lends = tt;
+        dead_words = beside_b m c.new.result framed (c.new.ensures.boot ∙ ap (λ (n : MemoryParts). n.boot) c.self.view_is)
+            (c.new.ensures.half ∙ ap (λ (n : MemoryParts). n.a) c.self.view_is) (c.new.ensures.first ∙ before);
+        own_words = ap (λ (n : MemoryParts). n.b) c.self.view_is;
+        own_frames = behind;
+        whole_frames = framed;
+      },
+    )
