@@ -1,6 +1,2 @@
-pub mod WorldPieces
-pub mod WorldNumbers
-pub mod WorldWords
-pub mod WorldEnds
-pub mod WorldLineLaws
+-- The lemmas that the proofs of this crate share.
 pub mod WorldLaws

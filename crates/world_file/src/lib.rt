@@ -1,9 +1,9 @@
 //! Worlds, read from their texts.
 #![tactic(auto)]
 
+mod key;
 mod reader;
+mod why;
 
-pub use reader::{WorldFault, one_world, read_world};
-
-#[cfg(test)]
-mod tests;
+pub use reader::{WorldFault, one_refusal, one_world, read_world, worlds_are_read};
+pub use why::Why;
