@@ -1,5 +1,5 @@
 -- What a line of a world text is by itself: its words, what its first word makes it, and its fields.
-use Rattle.std.specs.Prelude.{ℕ, zero, suc, ◌^◌, ◌-◌, Bool, true, false, not, nat_lt, nat_le, ◌&&◌, ◌||◌, ◌==◌, if◌then◌else◌, List, [], ◌∷◌, length, get_or, map, drop, codes, decimal, bytes_eq, Option, Some, None}
+use Rattle.std.specs.Prelude.{ℕ, zero, suc, ◌^◌, ◌-◌, Bool, true, false, not, nat_lt, nat_le, ◌&&◌, ◌||◌, ◌==◌, if◌then◌else◌, List, [], ◌∷◌, length, get_or, drop, filter_map, codes, decimal, bytes_eq, Option, Some, None, unwrap_or}
 use Rattle.std.specs.List.{list_all, list_any}
 use Rattle.std.specs.Str.Parse.{digits_value}
 use Rattle.ow_base.specs.Lines.{hex8}
@@ -90,9 +90,10 @@ abbrev pub is_empty : List ℕ → Bool
 is_empty [] = true
 is_empty (b ∷ bs) = false
 
--- the number that a field of digits is, and the words that the fields behind the first word are
+-- the number that a field is, 0 where it is none
 abbrev pub number_at : (place : ℕ) → Line → ℕ
-number_at place line = digits_value 10 (word_at place line)
+number_at place line = unwrap_or (number_of (word_at place line)) 0
 
+-- the words that the fields are
 unfoldable pub words_of : Line → List ℕ
-words_of line = map (digits_value 16) (fields line)
+words_of line = filter_map word_of (fields line)

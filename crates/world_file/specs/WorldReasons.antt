@@ -1,14 +1,14 @@
 -- Why a line is refused behind the lines before it. Each reason is a test of its own.
-use Rattle.std.specs.Prelude.{ℕ, ◌+◌, Bool, true, false, not, nat_lt, nat_le, ◌&&◌, ◌||◌, ◌==◌, if◌then◌else◌, List, [], ◌∷◌, ◌++◌, length, find, codes, bytes_eq, Option, Some, None}
+use Rattle.std.specs.Prelude.{ℕ, ◌+◌, Bool, true, false, not, nat_lt, nat_le, ◌&&◌, ◌||◌, ◌==◌, if◌then◌else◌, List, [], ◌∷◌, length, find, codes, bytes_eq, Option, Some, None}
 use Rattle.std.specs.List.{list_all, list_any}
-use Rattle.ow_base.specs.World.{start_pages}
+use Rattle.ow_base.specs.World.{start_pages, pages_of_found}
 use Rattle.ow_base.specs.declared.worlds.Program.{Program}
 use Rattle.world_file.specs.declared.key.Key.{Key}
 use Rattle.world_file.specs.declared.key.Key.TheVariants.{World, Frames, Sectors, Quantum, Budget, Program as ProgramKey, Code, Data, Start, End, Unbuilt, Unknown}
 use Rattle.world_file.specs.declared.why.Why.{Why}
 use Rattle.world_file.specs.declared.why.Why.TheVariants.{FirstLine, NotBuilt, Word, TooMany, Fields, Number, Name, Hex, Escape, Twice, NoSuchProgram, Order, Frames as TooManyFrames, Sectors as TooManySectors, End as NoEnd, TooLarge}
 use Rattle.world_file.specs.WorldLines.{Line, words, word_at, fields, key, is_number, is_name, is_word, is_empty, is_there}
-use Rattle.world_file.specs.WorldFacts.{Facts, facts, programs_of, has_name, start_of}
+use Rattle.world_file.specs.WorldFacts.{Facts, facts, programs_of, has_name}
 
 -- the reasons in words
 abbrev pub reason_text : Why → List ℕ
@@ -186,9 +186,13 @@ abbrev pub names_no_program : Key → Facts → Line → Bool
 names_no_program Start f line = not (list_any (has_name (word_at 1 line)) (programs_of f))
 names_no_program other f line = false
 
+-- the pages that a start of the program with this name needs
+abbrev pub named_pages : (name : List ℕ) → List Program → ℕ
+named_pages name programs = pages_of_found (find (has_name name) programs)
+
 -- the pages of all starts, with this one, are more than the frames
 abbrev pub exceeds_frames : Key → Facts → Line → Bool
-exceeds_frames Start f line = nat_lt f.shape.user_frames (start_pages (programs_of f) (f.starts ++ start_of (programs_of f) line ∷ []))
+exceeds_frames Start f line = nat_lt f.shape.user_frames (start_pages (programs_of f) f.starts + named_pages (word_at 1 line) (programs_of f))
 exceeds_frames other f line = false
 
 -- whether a reason holds for a line; what gives `escape`, `order` and `sectors` is on lines of forms that
