@@ -1,2 +1,5 @@
 -- The lemmas that the proofs of this crate share.
+pub mod WorldPieces
+pub mod WorldNumbers
+pub mod WorldWords
 pub mod WorldLaws
