@@ -2,4 +2,5 @@
 pub mod WorldPieces
 pub mod WorldNumbers
 pub mod WorldWords
+pub mod WorldPrograms
 pub mod WorldLaws

@@ -4,6 +4,7 @@
 mod key;
 mod line;
 mod reader;
+mod so_far;
 mod why;
 
 pub use reader::{WorldFault, one_refusal, one_world, read_world, worlds_are_read};
