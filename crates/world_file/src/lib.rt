@@ -4,6 +4,7 @@
 mod key;
 mod line;
 mod reader;
+mod reasons;
 mod so_far;
 mod why;
 
