@@ -65,3 +65,152 @@ fn place_of(key: Key, so_far: &SoFar) -> Place
         _ => head_place(key, last),
     }
 }
+
+// Line 1 is another than `world 1`.
+fn is_no_first_line(so_far: &SoFar, line: &Line) -> bool
+    ensures { result ≡ is_no_first_line so_far.now line.now }
+{
+    so_far.last().is_none() && line.bytes() != b"world 1".as_slice()
+}
+
+// The line's form cannot be read yet.
+fn is_unbuilt(key: Key, so_far: &SoFar) -> bool
+    ensures { result ≡ is_unbuilt key so_far.now }
+{
+    match key {
+        Key::Unbuilt => true,
+        Key::Start => so_far.start_count() > 0,
+        _ => false,
+    }
+}
+
+// More words than fit on a line, or into a block that has some.
+fn exceeds(before: usize, here: usize) -> bool
+    ensures { result ≡ exceeds before here }
+{
+    here > 16 || before > 65536 - here
+}
+
+fn has_too_many_words(key: Key, so_far: &SoFar, line: &Line) -> bool
+    ensures { result ≡ has_too_many_words key so_far.now line.now }
+{
+    match key {
+        Key::Code => exceeds(so_far.code_count(), line.field_count()),
+        Key::Data => exceeds(so_far.data_count(), line.field_count()),
+        _ => false,
+    }
+}
+
+fn has_fields(key: Key, count: usize) -> bool
+    ensures { result ≡ has_fields key count }
+{
+    match key {
+        Key::Frames | Key::Sectors | Key::Quantum | Key::Budget | Key::Program => count == 1,
+        Key::Code | Key::Data => count >= 1,
+        Key::Start => count == 2,
+        Key::End => count == 0,
+        Key::World | Key::Unbuilt | Key::Unknown => true,
+    }
+}
+
+// Too few words, too many, or an empty one.
+fn lacks_fields(line: &Line) -> bool
+    ensures { result ≡ lacks_fields line.now }
+{
+    !has_fields(line.key(), line.field_count()) || line.has_empty_word()
+}
+
+fn has_no_number(key: Key, line: &Line) -> bool
+    ensures { result ≡ has_no_number key line.now }
+{
+    match key {
+        Key::Frames => !line.has_number(1, 16, 384),
+        Key::Sectors => !line.has_number(1, 1, 2048),
+        Key::Quantum => !line.has_number(1, 1, 10000),
+        Key::Budget => !line.has_number(1, 0, 2_000_000),
+        Key::Start => !line.has_number(2, 0, 1),
+        _ => false,
+    }
+}
+
+fn has_no_name(key: Key, line: &Line) -> bool
+    ensures { result ≡ has_no_name key line.now }
+{
+    match key {
+        Key::Program | Key::Start => !is_name(line.word(1)),
+        _ => false,
+    }
+}
+
+fn has_no_word(key: Key, line: &Line) -> bool
+    ensures { result ≡ has_no_word key line.now }
+{
+    match key {
+        Key::Code | Key::Data => !line.has_words(),
+        _ => false,
+    }
+}
+
+// The program's name again.
+fn comes_twice(key: Key, so_far: &SoFar, line: &Line) -> bool
+    ensures { result ≡ comes_twice key so_far.now line.now }
+{
+    match key {
+        Key::Program => so_far.has_program(line.word(1)),
+        _ => false,
+    }
+}
+
+fn names_no_program(key: Key, so_far: &SoFar, line: &Line) -> bool
+    ensures { result ≡ names_no_program key so_far.now line.now }
+{
+    match key {
+        Key::Start => !so_far.has_program(line.word(1)),
+        _ => false,
+    }
+}
+
+// The pages of the one start are more than the frames.
+fn exceeds_frames(key: Key, so_far: &SoFar, line: &Line) -> bool
+    requires first { is_unbuilt key so_far.now ≡ false }
+    ensures { result ≡ exceeds_frames key so_far.now line.now }
+{
+    match key {
+        Key::Start => so_far.named_pages(line.word(1)) > so_far.frames() as usize,
+        _ => false,
+    }
+}
+
+/// The first reason against a line behind the lines so far.
+#[tactic(auto, unfolding(crate::specs::WorldReasons::first_reason))]
+pub fn first_reason(so_far: &SoFar, line: &Line) -> Option<Why>
+    ensures { result ≡ first_reason so_far.now line.now }
+{
+    let key = line.key();
+    let place = place_of(key, so_far);
+    if is_no_first_line(so_far, line) {
+        Some(Why::FirstLine)
+    } else if is_unbuilt(key, so_far) {
+        Some(Why::NotBuilt)
+    } else if matches!(place, Place::Barred) {
+        Some(Why::Word)
+    } else if matches!(place, Place::Taken) || has_too_many_words(key, so_far, line) {
+        Some(Why::TooMany)
+    } else if lacks_fields(line) {
+        Some(Why::Fields)
+    } else if has_no_number(key, line) {
+        Some(Why::Number)
+    } else if has_no_name(key, line) {
+        Some(Why::Name)
+    } else if has_no_word(key, line) {
+        Some(Why::Hex)
+    } else if comes_twice(key, so_far, line) {
+        Some(Why::Twice)
+    } else if names_no_program(key, so_far, line) {
+        Some(Why::NoSuchProgram)
+    } else if exceeds_frames(key, so_far, line) {
+        Some(Why::Frames)
+    } else {
+        None
+    }
+}
