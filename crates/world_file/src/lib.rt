@@ -2,6 +2,7 @@
 #![tactic(auto)]
 
 mod key;
+mod line;
 mod reader;
 mod why;
 
