@@ -1,0 +1,5 @@
+use Rattle.world_file.proofs.WorldLaws.{one_world}
+use Rattle.world_file.proofs.reader.one_world.Goals as goal
+
+pub returns : goal.returns
+returns c = one_world
