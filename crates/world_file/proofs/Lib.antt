@@ -1,3 +1,5 @@
 -- The lemmas that the proofs of this crate share.
 pub mod LinesUnique
+pub mod EscapesUnique
+pub mod TextsUnique
 pub mod WorldLaws

@@ -95,7 +95,7 @@ pub free_name : (s : ℕ) (name : List ℕ) → s < 33 → IsName name → free 
 free_name s name low is = free_above s name low (recursion_from_All (λ b. 33 ≤ b) name is.lowest)
 
 -- words in hexadecimal
-hex_is_not : (s d : ℕ) → s < 48 → (hex_digit d == s) ≡ false
+pub hex_is_not : (s d : ℕ) → s < 48 → (hex_digit d == s) ≡ false
 hex_is_not s d low = other (hex_digit d) s (λ e. high (nat_lt d 10) e)
   where
     high : (small : Bool) → (if small then 48 + d else 87 + d) ≡ s → ⊥
