@@ -2,4 +2,5 @@
 pub mod LinesUnique
 pub mod EscapesUnique
 pub mod TextsUnique
+pub mod FilesUnique
 pub mod WorldLaws

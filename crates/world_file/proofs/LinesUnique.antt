@@ -42,7 +42,7 @@ AreSame a b r t = (a ≡ b) × (r ≡ t)
 head_same : (a b : ℕ) (x y : List ℕ) → a ∷ x ≡ b ∷ y → a ≡ b
 head_same a b x y e = cc
 
-tail_same : (a b : ℕ) (x y : List ℕ) → a ∷ x ≡ b ∷ y → x ≡ y
+pub tail_same : (a b : ℕ) (x y : List ℕ) → a ∷ x ≡ b ∷ y → x ≡ y
 tail_same a b x y e = cc
 
 -- what is before the first separator
