@@ -23,7 +23,7 @@ number_line_unique key m n r t clean small_m small_n e =
     let same = field_unique key (decimal m) (decimal n) r t clean (free_decimal 10 m (omega arith) small_m) (free_decimal 10 n (omega arith) small_n) e in
     (decimal_unique m n small_m small_n same.0, same.1)
 
-named_line_unique : (key x y r t : List ℕ) → free 10 key ≡ true → IsName x → IsName y → line (spaced key x) ++ r ≡ line (spaced key y) ++ t → AreSame x y r t
+pub named_line_unique : (key x y r t : List ℕ) → free 10 key ≡ true → IsName x → IsName y → line (spaced key x) ++ r ≡ line (spaced key y) ++ t → AreSame x y r t
 named_line_unique key x y r t clean is_x is_y e = field_unique key x y r t clean (free_name 10 x (omega arith) is_x) (free_name 10 y (omega arith) is_y) e
 
 -- the head
@@ -116,7 +116,7 @@ word_line_unique key vs ws r t clean is_v is_w e =
 abbrev pub IsWordLine : (key : List ℕ) → List ℕ → List ℕ → Type 0
 IsWordLine key = IsLineOf (word_line key) IsLineful
 
-word_lines_unique : (key : List ℕ) (a b : ℕ) (others : List ℕ) → key ≡ a ∷ b ∷ others → free 10 key ≡ true → AreUnique (IsWordLine key) (opening key) Anything
+pub word_lines_unique : (key : List ℕ) (a b : ℕ) (others : List ℕ) → key ≡ a ∷ b ∷ others → free 10 key ≡ true → AreUnique (IsWordLine key) (opening key) Anything
 word_lines_unique key a b others spelled clean = record {
   opens = λ text ws r is. ap (λ t. opening (t ++ r)) is.0 ∙ ap (λ k. opening (word_line k ws ++ r)) spelled ∙ ap opening (sym spelled);
   follows = tt;

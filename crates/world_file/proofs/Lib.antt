@@ -3,4 +3,6 @@ pub mod LinesUnique
 pub mod EscapesUnique
 pub mod TextsUnique
 pub mod FilesUnique
+pub mod ProgramsUnique
+pub mod DamagesUnique
 pub mod WorldLaws
