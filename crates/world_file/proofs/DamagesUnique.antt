@@ -11,7 +11,7 @@ use Rattle.world_file.proofs.EscapesUnique.{escaped_unique, free_escaped}
 use Rattle.world_file.proofs.TextsUnique.{opening, Anything, AreUnique, IsLineOf}
 
 -- a number with a space behind it
-number_unique : (m n : ℕ) (r t : List ℕ) → m < 2 ^ 32 → n < 2 ^ 32 → decimal m ++ (32 ∷ r) ≡ decimal n ++ (32 ∷ t) → AreSame m n r t
+pub number_unique : (m n : ℕ) (r t : List ℕ) → m < 2 ^ 32 → n < 2 ^ 32 → decimal m ++ (32 ∷ r) ≡ decimal n ++ (32 ∷ t) → AreSame m n r t
 number_unique m n r t small_m small_n e =
     let cut = cut_unique 32 (decimal m) (decimal n) r t (free_decimal 32 m (omega arith) small_m) (free_decimal 32 n (omega arith) small_n) e in
     (decimal_unique m n small_m small_n cut.0, cut.1)
@@ -20,7 +20,7 @@ number_unique m n r t small_m small_n e =
 free_spaced : (front last : List ℕ) → free 10 front ≡ true → free 10 last ≡ true → free 10 (spaced front last) ≡ true
 free_spaced front last clean_front clean_last = free-append 10 front (32 ∷ last) clean_front clean_last
 
-free_number : (front : List ℕ) (n : ℕ) → n < 2 ^ 32 → free 10 front ≡ true → free 10 (spaced front (decimal n)) ≡ true
+pub free_number : (front : List ℕ) (n : ℕ) → n < 2 ^ 32 → free 10 front ≡ true → free 10 (spaced front (decimal n)) ≡ true
 free_number front n small clean = free_spaced front (decimal n) clean (free_decimal 10 n (omega arith) small)
 
 three_fields : (key a b c : List ℕ) → spaced (spaced (spaced key a) b) c ≡ key ++ (32 ∷ (a ++ (32 ∷ (b ++ (32 ∷ c)))))

@@ -5,4 +5,6 @@ pub mod TextsUnique
 pub mod FilesUnique
 pub mod ProgramsUnique
 pub mod DamagesUnique
+pub mod PanicsUnique
+pub mod WorldUnique
 pub mod WorldLaws
