@@ -1,12 +1,12 @@
 -- The typed lines and the damage lines of a text are told one way.
 use Rattle.std.proofs.Common.{◌≡◌, ℕ, ◌^◌, ◌<◌, ◌≤◌, true, if◌then◌else◌, List, [], ◌∷◌, ◌++◌, codes, decimal, bytes_eq, arith, ap, ◌∙◌, sym, refl, subst, append_assoc}
 use Rattle.std.proofs.lemmas.List.{append_cancel_left}
-use Rattle.ow_base.specs.Lines.{line, spaced, hex8, escaped}
+use Rattle.ow_base.specs.Lines.{spaced, hex8, escaped}
 use Rattle.ow_base.specs.World.{Typed, type_line, IsTyped, kind_name, index_count, word_count, page_number_count, damage_place, damage_line, IsDamage}
 use Rattle.ow_base.specs.declared.worlds.Damage.{Damage}
 use Rattle.ow_base.specs.declared.worlds.DamageKind.{DamageKind}
 use Rattle.ow_base.specs.declared.worlds.DamageKind.TheVariants.{Head, Proc, Sig, Open, File, Cache, Term, Row, Owner, Table, Cached, Page}
-use Rattle.world_file.proofs.LinesUnique.{free, free-append, AreSame, tail_same, cut_unique, line_unique, free_decimal, decimal_unique, free_hex8, word_unique}
+use Rattle.world_file.proofs.LinesUnique.{free, free-append, AreSame, cut_unique, line_unique, free_decimal, decimal_unique, free_hex8, word_unique}
 use Rattle.world_file.proofs.EscapesUnique.{escaped_unique, free_escaped}
 use Rattle.world_file.proofs.TextsUnique.{opening, Anything, AreUnique, IsLineOf}
 

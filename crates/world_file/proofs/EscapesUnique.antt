@@ -1,13 +1,12 @@
 -- Bytes in escape text are read back one by one, so that a text spells at most one list of them.
-use Rattle.std.proofs.Common.{◌≡◌, ℕ, ◌+◌, ◌*◌, ◌/◌, ◌%◌, ◌<◌, ◌≤◌, Bool, true, false, nat_le, ◌&&◌, ◌==◌, if◌then◌else◌, List, [], ◌∷◌, ◌++◌, length, All, arith, ap, ◌∙◌, sym, refl, append_assoc}
+use Rattle.std.proofs.Common.{◌≡◌, ℕ, ◌+◌, ◌*◌, ◌/◌, ◌%◌, ◌<◌, Bool, true, false, nat_le, ◌&&◌, ◌==◌, if◌then◌else◌, List, [], ◌∷◌, ◌++◌, length, arith, ap, ◌∙◌, sym, refl}
 use Rattle.std.specs.Char.{digit_value}
-use Rattle.std.specs.List.{AllByRecursion, flat_map}
-use Rattle.std.proofs.lemmas.Bool.{eqb-true, eqb-false}
-use Rattle.std.proofs.lemmas.Grind.{common_steps}
+use Rattle.std.specs.List.{AllByRecursion}
+use Rattle.std.proofs.lemmas.Bool.{eqb-true}
 use Rattle.std.proofs.lemmas.List.Elements.{recursion_from_All}
 use Rattle.ow_base.specs.Lines.{hex_digit, escaped_byte, escaped}
 use Rattle.ow_base.specs.World.{AreBytes}
-use Rattle.world_file.proofs.LinesUnique.{free, free-append, other, hex_is_not, AreSame, digit}
+use Rattle.world_file.proofs.LinesUnique.{free, free-append, hex_is_not, AreSame, digit}
 
 -- the first byte that an escape text spells, and what is behind it
 abbrev of_digits : List ℕ → ℕ × List ℕ

@@ -1,16 +1,15 @@
 -- The head, the files and the programs of a text are told one way.
-use Rattle.std.proofs.Common.{◌≡◌, ℕ, ◌^◌, ◌<◌, ◌≤◌, true, List, [], ◌∷◌, ◌++◌, length, codes, decimal, arith, ap, ◌∙◌, sym, refl, append_assoc}
-use Rattle.std.specs.List.{AllByRecursion, flat_map, concat}
+use Rattle.std.proofs.Common.{◌≡◌, ℕ, ◌^◌, ◌<◌, true, List, ◌∷◌, ◌++◌, codes, decimal, arith, ap, ◌∙◌, sym, refl, append_assoc}
+use Rattle.std.specs.List.{flat_map, concat}
 use Rattle.std.proofs.lemmas.List.{append_cancel_left}
 use Rattle.std.proofs.lemmas.List.Elements.{recursion_from_All}
 use Rattle.ow_base.specs.Lines.{line, spaced, number_line, escaped}
-use Rattle.ow_base.specs.World.{IsName, AreTexts, IsShape, head_lines, AreBytes, put_line, IsFile, word_line, IsLineful, AreWordLines, IsProgram}
+use Rattle.ow_base.specs.World.{IsName, IsShape, head_lines, AreBytes, put_line, IsFile, word_line, IsLineful}
 use Rattle.ow_base.specs.declared.machine.Shape.{Shape}
 use Rattle.ow_base.specs.declared.worlds.FileText.{FileText}
-use Rattle.ow_base.specs.declared.worlds.Program.{Program}
 use Rattle.world_file.proofs.LinesUnique.{free, free-append, AreSame, tail_same, line_unique, free_decimal, decimal_unique, free_name, word_text, free_words, words_unique}
 use Rattle.world_file.proofs.EscapesUnique.{escaped_unique, free_escaped}
-use Rattle.world_file.proofs.TextsUnique.{opening, Anything, AreUnique, opening_by, texts_unique, IsLineOf, lines_are}
+use Rattle.world_file.proofs.TextsUnique.{opening, Anything, AreUnique, texts_unique, IsLineOf, lines_are}
 
 -- lines of a key word and one field
 pub field_unique : (key x y r t : List ℕ) → free 10 key ≡ true → free 10 x ≡ true → free 10 y ≡ true → line (spaced key x) ++ r ≡ line (spaced key y) ++ t → AreSame x y r t
@@ -75,7 +74,7 @@ puts_unique = record {
 abbrev file_with : (name bytes : List ℕ) → FileText
 file_with name bytes = record { name = name; bytes = bytes }
 
-abbrev IsNoPut : ℕ → Type 0
+abbrev pub IsNoPut : ℕ → Type 0
 IsNoPut k = k ≡ put_key → ⊥
 
 file_one : (text_a text_b : List ℕ) (a b : FileText) (r t : List ℕ) → IsFile text_a a → IsFile text_b b → IsNoPut (opening r) → IsNoPut (opening t) → text_a ++ r ≡ text_b ++ t → AreSame a b r t

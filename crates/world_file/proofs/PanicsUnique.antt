@@ -1,14 +1,14 @@
 -- The panics of a text are told one way.
-use Rattle.std.proofs.Common.{◌≡◌, ℕ, ◌^◌, ◌<◌, ◌≤◌, true, List, [], ◌∷◌, ◌++◌, codes, decimal, arith, ap, ◌∙◌, sym, refl, append_assoc}
-use Rattle.std.specs.List.{AllByRecursion, flat_map}
+use Rattle.std.proofs.Common.{◌≡◌, ℕ, ◌^◌, ◌<◌, ◌≤◌, true, List, ◌∷◌, ◌++◌, codes, decimal, arith, ap, ◌∙◌, sym, refl, append_assoc}
+use Rattle.std.specs.List.{flat_map}
 use Rattle.std.proofs.lemmas.List.{append_cancel_left}
 use Rattle.std.proofs.lemmas.List.Elements.{recursion_from_All}
 use Rattle.ow_base.specs.Lines.{line, spaced}
 use Rattle.ow_base.specs.World.{AreTexts, damage_line, IsDamage, again_line, IsPanic}
 use Rattle.ow_base.specs.declared.worlds.Damage.{Damage}
 use Rattle.ow_base.specs.declared.worlds.PanicLine.{PanicLine}
-use Rattle.world_file.proofs.LinesUnique.{free, free-append, AreSame, line_unique, free_decimal, decimal_unique}
-use Rattle.world_file.proofs.TextsUnique.{opening, Anything, AreUnique, opening_by, texts_unique, IsLineOf, lines_are}
+use Rattle.world_file.proofs.LinesUnique.{free, AreSame, line_unique, decimal_unique}
+use Rattle.world_file.proofs.TextsUnique.{opening, Anything, AreUnique, three, opening_by, texts_unique, IsLineOf, lines_are}
 use Rattle.world_file.proofs.FilesUnique.{number_line_unique}
 use Rattle.world_file.proofs.DamagesUnique.{number_unique, free_number, damage_key, damages_unique}
 
@@ -37,7 +37,7 @@ panic_line_unique : (j k m n : ℕ) (r t : List ℕ) → IsWord j → IsWord k �
 panic_line_unique j k m n r t small_j small_k small_m small_n e =
     let same = line_unique (panic_text j m) (panic_text k n) r t (free_panic j m small_j small_m) (free_panic k n small_k small_n) e in
     let fields = append_cancel_left (codes "panic ") (decimal j ++ (32 ∷ decimal m)) (decimal k ++ (32 ∷ decimal n))
-        (sym (append_assoc (codes "panic ") (decimal j) (32 ∷ decimal m)) ∙ same.0 ∙ append_assoc (codes "panic ") (decimal k) (32 ∷ decimal n)) in
+    (sym (append_assoc (codes "panic ") (decimal j) (32 ∷ decimal m)) ∙ same.0 ∙ append_assoc (codes "panic ") (decimal k) (32 ∷ decimal n)) in
     let trap = number_unique j k (decimal m) (decimal n) small_j small_k fields in
     (trap.0, decimal_unique m n small_m small_n trap.1, same.1)
 
@@ -61,9 +61,6 @@ no_damage frames text r panic is end =
 abbrev panic_with : (trap store : ℕ) (damages : List Damage) (agains : List ℕ) → PanicLine
 panic_with trap store damages agains = record { trap = trap; store = store; damages = damages; agains = agains }
 
-three : (a b c r : List ℕ) → (a ++ (b ++ c)) ++ r ≡ a ++ (b ++ (c ++ r))
-three a b c r = simp append_assoc
-
 panic_one : (frames : ℕ) → frames ≤ 384 → (text_a text_b : List ℕ) (a b : PanicLine) (r t : List ℕ) → IsPanic frames text_a a → IsPanic frames text_b b
     → IsNoPartOfPanic (opening r) → IsNoPartOfPanic (opening t) → text_a ++ r ≡ text_b ++ t → AreSame a b r t
 panic_one frames few text_a text_b a b r t is_a is_b may_r may_t e =
@@ -77,9 +74,9 @@ panic_one frames few text_a text_b a b r t is_a is_b may_r may_t e =
     sym (three line_a damages_a agains_a r) ∙ ap (λ x. x ++ r) (sym is_a.spelled) ∙ e ∙ ap (λ x. x ++ t) is_b.spelled ∙ three line_b damages_b agains_b t in
     let first = panic_line_unique a.trap b.trap a.store b.store (damages_a ++ (agains_a ++ r)) (damages_b ++ (agains_b ++ t)) is_a.last_trap is_b.last_trap is_a.store is_b.store whole in
     let damages = texts_unique (IsLineOf damage_line (IsDamage frames)) damage_key Anything (damages_unique frames few) damages_a damages_b a.damages b.damages (agains_a ++ r) (agains_b ++ t)
-        (damages_are frames text_a a is_a) (damages_are frames text_b b is_b) (no_damage frames text_a r a is_a may_r.0) (no_damage frames text_b t b is_b may_t.0) tt tt first.2 in
+    (damages_are frames text_a a is_a) (damages_are frames text_b b is_b) (no_damage frames text_a r a is_a may_r.0) (no_damage frames text_b t b is_b may_t.0) tt tt first.2 in
     let agains = texts_unique (IsLineOf again_line IsWord) again_key Anything agains_unique agains_a agains_b a.agains b.agains r t
-        (agains_are frames text_a a is_a) (agains_are frames text_b b is_b) may_r.1 may_t.1 tt tt damages.1 in
+    (agains_are frames text_a a is_a) (agains_are frames text_b b is_b) may_r.1 may_t.1 tt tt damages.1 in
     let same : a ≡ b =
     ap (λ n. panic_with n a.store a.damages a.agains) first.0
     ∙ ap (λ n. panic_with b.trap n a.damages a.agains) first.1

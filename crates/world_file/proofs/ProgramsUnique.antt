@@ -1,15 +1,15 @@
 -- The programs and the starts of a text are told one way.
-use Rattle.std.proofs.Common.{◌≡◌, ℕ, zero, suc, ◌<◌, ◌≤◌, true, List, [], ◌∷◌, ◌++◌, length, get_or, slice_get, All, AllPairs, Option, Some, codes, decimal, arith, ap, ◌∙◌, sym, refl, subst, append_assoc}
-use Rattle.std.specs.List.{AllByRecursion, flat_map, concat}
+use Rattle.std.proofs.Common.{◌≡◌, ℕ, zero, suc, ◌<◌, true, List, [], ◌∷◌, ◌++◌, get_or, slice_get, AllPairs, Some, codes, decimal, arith, ap, ◌∙◌, sym, refl, subst, append_assoc}
+use Rattle.std.specs.List.{concat}
 use Rattle.std.proofs.lemmas.List.{append_cancel_left}
 use Rattle.std.proofs.lemmas.List.Elements.{recursion_from_All}
 use Rattle.std.proofs.lemmas.Option.{get_or_from_slice_get, slice_get_within, same_Some}
 use Rattle.ow_base.specs.Lines.{line, spaced}
-use Rattle.ow_base.specs.World.{IsName, AreTexts, word_line, IsLineful, AreWordLines, IsProgram, start_line, IsStart}
+use Rattle.ow_base.specs.World.{IsName, AreTexts, word_line, IsLineful, AreWordLines, IsProgram, IsStart}
 use Rattle.ow_base.specs.declared.worlds.Program.{Program}
 use Rattle.ow_base.specs.declared.worlds.Start.{Start as Started}
-use Rattle.world_file.proofs.LinesUnique.{free, free-append, AreSame, tail_same, cut_unique, line_unique, free_decimal, decimal_unique, free_name}
-use Rattle.world_file.proofs.TextsUnique.{opening, Anything, AreUnique, opening_by, texts_unique, IsLineOf, lines_are}
+use Rattle.world_file.proofs.LinesUnique.{free, free-append, AreSame, cut_unique, line_unique, free_decimal, decimal_unique, free_name}
+use Rattle.world_file.proofs.TextsUnique.{opening, Anything, AreUnique, three, opening_by, texts_unique, lines_are}
 use Rattle.world_file.proofs.FilesUnique.{named_line_unique, IsWordLine, word_lines_unique}
 
 abbrev pub code_key : ℕ
@@ -47,9 +47,6 @@ no_code text words r is end =
 
 abbrev program_with : (name code values : List ℕ) → Program
 program_with name code values = record { name = name; code = code; values = values }
-
-three : (a b c r : List ℕ) → (a ++ (b ++ c)) ++ r ≡ a ++ (b ++ (c ++ r))
-three a b c r = simp append_assoc
 
 program_one : (text_a text_b : List ℕ) (a b : Program) (r t : List ℕ) → IsProgram text_a a → IsProgram text_b b → IsNoWordLine (opening r) → IsNoWordLine (opening t) → text_a ++ r ≡ text_b ++ t → AreSame a b r t
 program_one text_a text_b a b r t is_a is_b may_r may_t e =

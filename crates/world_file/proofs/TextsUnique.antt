@@ -1,6 +1,6 @@
 -- Of a text that is some items and something else, the items are the same however it is cut, where the something else
 -- does not open as an item does.
-use Rattle.std.proofs.Common.{◌≡◌, ℕ, ◌+◌, ◌*◌, ◌≤◌, List, [], ◌∷◌, ◌++◌, length, All, arith, ap, ◌∙◌, sym, refl, subst, append_assoc}
+use Rattle.std.proofs.Common.{◌≡◌, ℕ, ◌+◌, ◌*◌, ◌≤◌, List, [], ◌∷◌, ◌++◌, length, arith, ap, ◌∙◌, sym, refl, subst, append_assoc}
 use Rattle.std.specs.List.{AllByRecursion, flat_map}
 use Rattle.ow_base.specs.World.{AreTexts}
 use Rattle.world_file.proofs.LinesUnique.{AreSame}
@@ -9,6 +9,10 @@ use Rattle.world_file.proofs.LinesUnique.{AreSame}
 abbrev pub opening : List ℕ → ℕ
 opening (a ∷ b ∷ text) = 256 * a + b
 opening text = 0
+
+-- a text of three parts, and what is behind it
+pub three : (a b c r : List ℕ) → (a ++ (b ++ c)) ++ r ≡ a ++ (b ++ (c ++ r))
+three a b c r = simp append_assoc
 
 -- nothing is asked of what stands behind
 abbrev pub Anything : ℕ → Type 0

@@ -21,7 +21,3 @@ refuses text r h = ?
 -- what is refused is not read, at the same line
 pub refused : (text : List ℕ) (line : ℕ) (why : Why) → IsRefused text line why → read_text text ≡ Err (record { line = line; why = why })
 refused text line why is = ?
-
--- each text has at most one value, in all the forms of World
-pub one_world : (text : List ℕ) (a b : World) → IsWorld text a → IsWorld text b → a ≡ b
-one_world text a b is_a is_b = ?
