@@ -7,4 +7,8 @@ pub mod ProgramsUnique
 pub mod DamagesUnique
 pub mod PanicsUnique
 pub mod WorldUnique
+pub mod WorldPieces
+pub mod WorldNumbers
+pub mod WorldWords
+pub mod WorldPrograms
 pub mod WorldLaws
