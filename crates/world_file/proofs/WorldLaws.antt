@@ -23,10 +23,6 @@ refuses text r h = unread_is_refused text r h
 pub refused : (text : List ℕ) (line : ℕ) (why : Why) → IsRefused text line why → read_text text ≡ Err (record { line = line; why = why })
 refused text line why is = refused_is_not_read text line why is
 
--- each text has at most one value, in all the forms of World
-pub one_world : (text : List ℕ) (a b : World) → IsWorld text a → IsWorld text b → a ≡ b
-one_world text a b is_a is_b = ?
-
 -- what has the text of a world of the built forms is not refused
 pub built_is_not_refused : (text : List ℕ) (world : World) (line : ℕ) (why : Why) → IsWorld text world → IsBuilt world → IsRefused text line why → ⊥
 built_is_not_refused text world line why is built refused =

@@ -10,8 +10,8 @@ use Rattle.world_file.specs.declared.why.Why.{Why}
 use Rattle.world_file.specs.declared.why.Why.TheVariants.{FirstLine, NotBuilt, Word, TooMany, Fields, Number, Name, Hex, Escape, Twice, NoSuchProgram, Order, Frames as TooManyFrames, Sectors as TooManySectors, End}
 use Rattle.world_file.specs.WorldLines.{Line, with_byte, pieces, key, is_empty}
 use Rattle.world_file.specs.WorldFacts.{Facts, programs_of}
-use Rattle.world_file.specs.WorldReasons.{Place, first_reason, holds, reasons, is_no_first_line, is_unbuilt, is_barred, is_taken, place_of, program_place, counted_place, comes_too_often, has_too_many_words}
-use Rattle.world_file.specs.WorldReasons.Place.{Free, Taken, Barred}
+use Rattle.world_file.specs.WorldReasons.{first_reason, holds, reasons, is_no_first_line, is_unbuilt, is_barred, is_taken, place_of, program_place, counted_place, comes_too_often, has_too_many_words}
+use Rattle.world_file.specs.declared.reasons.Place.TheVariants.{Free, Taken, Barred}
 use Rattle.world_file.specs.WorldReading.{Refusal, with_line, world_of, is_nothing, ended, read_line, read_lines}
 use Rattle.world_file.proofs.WorldPieces.{HasPiece, has_piece}
 

@@ -1,6 +1,8 @@
 -- How a world is read, line by line.
 use Rattle.std.specs.Prelude.{◌≡◌, ℕ, suc, ◌+◌, nat_lt, Bool, true, false, if◌then◌else◌, List, [], ◌∷◌, ◌++◌, length, codes, bytes_eq, Option, Some, None, option_to_list, Result, Ok, Err}
 use Rattle.ow_base.specs.declared.worlds.World.{World}
+use Rattle.world_file.specs.declared.reader.WorldFault.{WorldFault}
+use Rattle.world_file.specs.declared.reader.WorldFault.TheVariants.{Bad, Memory}
 use Rattle.world_file.specs.declared.why.Why.{Why}
 use Rattle.world_file.specs.declared.why.Why.TheVariants.{End, TooLarge}
 use Rattle.world_file.specs.WorldLines.{Line, pieces, key, number_at}
@@ -56,3 +58,9 @@ read_lines f number (line ∷ next ∷ ahead) =
 
 unfoldable pub read_text : List ℕ → Result World Refusal
 read_text text = if nat_lt 1048576 (length text) then Err (record { line = 0; why = TooLarge }) else read_lines nothing_said 0 (pieces 10 text)
+
+-- what a function of the reader returned is what reading gives, unless memory ran out
+abbrev pub Gives : Result World WorldFault → Result World Refusal → Type 0
+Gives (Ok world) read = read ≡ Ok world
+Gives (Err (Bad line why)) read = read ≡ Err (record { line = line; why = why })
+Gives (Err (Memory e)) read = Unit {0}

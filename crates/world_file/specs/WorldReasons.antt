@@ -5,6 +5,8 @@ use Rattle.ow_base.specs.World.{start_pages, pages_of_found}
 use Rattle.ow_base.specs.declared.worlds.Program.{Program}
 use Rattle.world_file.specs.declared.key.Key.{Key}
 use Rattle.world_file.specs.declared.key.Key.TheVariants.{World, Frames, Sectors, Quantum, Budget, Program as ProgramKey, Code, Data, Start, End, Unbuilt, Unknown}
+use Rattle.world_file.specs.declared.reasons.Place.{Place}
+use Rattle.world_file.specs.declared.reasons.Place.TheVariants.{Free, Taken, Barred}
 use Rattle.world_file.specs.declared.why.Why.{Why}
 use Rattle.world_file.specs.declared.why.Why.TheVariants.{FirstLine, NotBuilt, Word, TooMany, Fields, Number, Name, Hex, Escape, Twice, NoSuchProgram, Order, Frames as TooManyFrames, Sectors as TooManySectors, End as NoEnd, TooLarge}
 use Rattle.world_file.specs.WorldLines.{Line, words, word_at, fields, key, is_number, is_name, is_word, is_empty, is_there}
@@ -31,11 +33,6 @@ reason_text TooLarge = codes "too large"
 
 -- whether a line of a kind may stand behind the line before: it may, it may not for the one reason that its
 -- kind came just before as often as it may, or it may not at all
-pub data Place : Type 0 where
-  Free : Place
-  Taken : Place
-  Barred : Place
-
 abbrev pub first_place : Option Key → Place
 first_place None = Free
 first_place (Some World) = Taken
@@ -91,18 +88,21 @@ abbrev pub end_place : Option Key → Place
 end_place (Some Start) = Free
 end_place other = Barred
 
+abbrev pub head_place : Key → Option Key → Place
+head_place World last = first_place last
+head_place Frames last = frames_place last
+head_place Sectors last = sectors_place last
+head_place Quantum last = quantum_place last
+head_place Budget last = budget_place last
+head_place other last = Barred
+
 abbrev pub place_of : Key → Facts → Place
-place_of World f = first_place f.last
-place_of Frames f = frames_place f.last
-place_of Sectors f = sectors_place f.last
-place_of Quantum f = quantum_place f.last
-place_of Budget f = budget_place f.last
 place_of ProgramKey f = program_place (length (programs_of f)) f.last
 place_of Code f = code_place f.last
 place_of Data f = data_place f.last
 place_of Start f = start_place (length f.starts) f.last
 place_of End f = end_place f.last
-place_of other f = Barred
+place_of other f = head_place other f.last
 
 abbrev pub is_barred : Place → Bool
 is_barred Barred = true

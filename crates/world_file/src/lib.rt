@@ -4,6 +4,8 @@
 mod key;
 mod line;
 mod reader;
+mod reasons;
+mod so_far;
 mod why;
 
 pub use reader::{WorldFault, one_refusal, one_world, read_world, worlds_are_read};

@@ -1,14 +1,22 @@
-ghost use Rattle.std.specs.Prelude.{◌≡◌, ℕ, List, IfOk, IfErr, alloc_error};
+ghost use Rattle.std.specs.Prelude.{◌≡◌, ℕ, ◌+◌, ◌-◌, ◌^◌, ◌<◌, ◌≤◌, List, length, IfOk, IfErr};
 ghost use Rattle.ow_base.specs.World.{IsWorld};
 ghost use Rattle.ow_base.specs.declared.worlds.World.{World};
 ghost use Rattle.world_file.specs.declared.why.Why.{Why};
 ghost use Rattle.world_file.specs.declared.reader.WorldFault.TheVariants.{Bad, Memory};
+ghost use Rattle.world_file.specs.WorldLines.{pieces};
+ghost use Rattle.world_file.specs.WorldReading.{Gives, nothing_said, ended, read_lines, read_text};
 ghost use Rattle.world_file.specs.WorldRefusals.{IsBuilt, IsRefused, IsRefusedFault};
 
+use crate::line::{Line, cut};
+use crate::reasons::first_reason;
+use crate::so_far::SoFar;
 use crate::why::Why;
 use ow_base::World;
-use std::alloc::{AllocError, AllocFailed, Global};
+use std::alloc::{AllocError, Global};
 use thiserror::Error;
+
+// The most bytes of a text.
+const MOST_BYTES: usize = 1_048_576;
 
 /// Why no world was read.
 #[derive(Debug, Drop, Error)]
@@ -18,6 +26,73 @@ pub enum WorldFault {
     Bad { line: u32, why: Why },
     #[error("out of memory")]
     Memory(AllocError),
+}
+
+impl From<AllocError> for WorldFault {
+    ghost from_gives = { λ e fault. fault ≡ Memory e };
+
+    fn from(e: AllocError) -> WorldFault {
+        WorldFault::Memory(e)
+    }
+}
+
+// The world, where nothing stands behind the line `end`, which has this number.
+fn ended(
+    alloc: Global,
+    so_far: SoFar,
+    number: u32,
+    ahead: &[u8],
+) -> Result<World, WorldFault>
+    requires { number < 2 ^ 32 - 1 }
+    ensures { (before : ℕ) → number ≡ before + 1 → Gives result (ended so_far before (pieces 10 ahead.now)) }
+{
+    if !ahead.is_empty() {
+        return Err(WorldFault::Bad {
+            line: number + 1,
+            why: Why::End,
+        });
+    }
+    Ok(so_far.into_world(alloc)?)
+}
+
+// The world of a text's lines.
+fn read_lines(alloc: Global, text: &[u8]) -> Result<World, WorldFault>
+    requires { length text.now ≤ 1048576 }
+    ensures { Gives result (read_lines nothing_said 0 (pieces 10 text.now)) }
+{
+    let mut so_far = SoFar::new(alloc);
+    let mut number = 0;
+    let mut rest = text;
+    while let Some((bytes, ahead)) = cut(b'\n', rest) {
+        let line = Line::new(alloc, bytes)?;
+        number += 1;
+        if let Some(why) = first_reason(&so_far, &line) {
+            return Err(WorldFault::Bad { line: number, why });
+        }
+        if bytes == b"end".as_slice() {
+            return ended(alloc, so_far, number, ahead);
+        }
+        so_far = so_far.with_line(alloc, &line)?;
+        rest = ahead;
+    }
+    Err(WorldFault::Bad {
+        line: number + 1,
+        why: Why::End,
+    })
+}
+
+// The world of a text.
+#[tactic(auto, unfolding(crate::specs::WorldReading::read_text))]
+fn read_text(alloc: Global, text: &[u8]) -> Result<World, WorldFault>
+    ensures { Gives result (read_text text.now) }
+{
+    if text.len() > MOST_BYTES {
+        return Err(WorldFault::Bad {
+            line: 0,
+            why: Why::TooLarge,
+        });
+    }
+    read_lines(alloc, text)
 }
 
 /// A text is that of one world at most.
@@ -47,5 +122,5 @@ pub fn read_world(alloc: Global, bytes: &[u8]) -> Result<World, WorldFault>
     // What is refused is refused at this line, for this reason.
     ensures refused { IfErr result (IsRefusedFault bytes.now) }
 {
-    Err(WorldFault::Memory(AllocError))
+    read_text(alloc, bytes)
 }
