@@ -13,4 +13,14 @@ pub mod WorldWords
 pub mod WorldRefused
 pub mod WorldSteps
 pub mod WorldPrograms
+pub mod WorldFields
+pub mod WorldPassed
+pub mod WorldSpelled
+pub mod WorldHead
+pub mod WorldBlocksRead
+pub mod WorldBlocks
+pub mod WorldKeys
+pub mod WorldAccepts
+pub mod WorldSaid
+pub mod WorldHeadSteps
 pub mod WorldLaws

@@ -5,6 +5,7 @@ use Rattle.ow_base.specs.declared.worlds.World.{World}
 use Rattle.world_file.specs.declared.why.Why.{Why}
 use Rattle.world_file.specs.WorldRefusals.{IsBuilt, IsRefused}
 use Rattle.world_file.specs.WorldReading.{Refusal, read_text}
+use Rattle.world_file.proofs.WorldAccepts.{world_accepted}
 use Rattle.world_file.proofs.WorldRefused.{unread_is_refused, refused_is_not_read, read_is_not_refused}
 
 -- what is read has the text, and is of the built forms
@@ -13,7 +14,7 @@ reads text world h = ?
 
 -- what has the text is read
 pub accepts : (text : List ℕ) (world : World) → IsWorld text world → IsBuilt world → read_text text ≡ Ok world
-accepts text world is built = ?
+accepts text world is built = world_accepted text world is built
 
 -- what is not read is refused at its line
 pub refuses : (text : List ℕ) (r : Refusal) → read_text text ≡ Err r → IsRefused text r.line r.why
