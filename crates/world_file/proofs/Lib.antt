@@ -24,3 +24,4 @@ pub mod WorldAccepts
 pub mod WorldSaid
 pub mod WorldHeadSteps
 pub mod WorldLaws
+pub mod WorldAnswers

@@ -10,3 +10,6 @@ mod why;
 
 pub use reader::{WorldFault, one_refusal, one_world, read_world, worlds_are_read};
 pub use why::Why;
+
+#[cfg(test)]
+mod tests;

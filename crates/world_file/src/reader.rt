@@ -1,10 +1,11 @@
-ghost use Rattle.std.specs.Prelude.{◌≡◌, ℕ, ◌+◌, ◌-◌, ◌^◌, ◌<◌, ◌≤◌, List, length, IfOk, IfErr};
+ghost use Rattle.std.specs.Prelude.{◌≡◌, ℕ, ◌+◌, ◌≤◌, if◌then◌else◌, List, length, IfOk, IfErr, Ok, Err};
 ghost use Rattle.ow_base.specs.World.{IsWorld};
 ghost use Rattle.ow_base.specs.declared.worlds.World.{World};
 ghost use Rattle.world_file.specs.declared.why.Why.{Why};
 ghost use Rattle.world_file.specs.declared.reader.WorldFault.TheVariants.{Bad, Memory};
-ghost use Rattle.world_file.specs.WorldLines.{pieces};
-ghost use Rattle.world_file.specs.WorldReading.{Gives, nothing_said, ended, read_lines, read_text};
+ghost use Rattle.world_file.specs.declared.why.Why.TheVariants.{End};
+ghost use Rattle.world_file.specs.WorldLines.{pieces, is_empty};
+ghost use Rattle.world_file.specs.WorldReading.{Gives, nothing_said, world_of, read_lines, read_text};
 ghost use Rattle.world_file.specs.WorldRefusals.{IsBuilt, IsRefused, IsRefusedFault};
 
 use crate::line::{Line, cut};
@@ -36,19 +37,14 @@ impl From<AllocError> for WorldFault {
     }
 }
 
-// The world, where nothing stands behind the line `end`, which has this number.
-fn ended(
-    alloc: Global,
-    so_far: SoFar,
-    number: u32,
-    ahead: &[u8],
-) -> Result<World, WorldFault>
-    requires { number < 2 ^ 32 - 1 }
-    ensures { (before : ℕ) → number ≡ before + 1 → Gives result (ended so_far before (pieces 10 ahead.now)) }
+// The world, where nothing is behind the line `end`, before which so many lines stand.
+fn ended(alloc: Global, so_far: SoFar, number: u32, ahead: &[u8]) -> Result<World, WorldFault>
+    requires count { number ≤ 1048576 }
+    ensures { Gives result (if is_empty ahead.now then Ok (world_of so_far) else Err (record { line = number + 2; why = End })) }
 {
     if !ahead.is_empty() {
         return Err(WorldFault::Bad {
-            line: number + 1,
+            line: number + 2,
             why: Why::End,
         });
     }
@@ -57,7 +53,7 @@ fn ended(
 
 // The world of a text's lines.
 fn read_lines(alloc: Global, text: &[u8]) -> Result<World, WorldFault>
-    requires { length text.now ≤ 1048576 }
+    requires size { length text.now ≤ 1048576 }
     ensures { Gives result (read_lines nothing_said 0 (pieces 10 text.now)) }
 {
     let mut so_far = SoFar::new(alloc);
@@ -65,14 +61,17 @@ fn read_lines(alloc: Global, text: &[u8]) -> Result<World, WorldFault>
     let mut rest = text;
     while let Some((bytes, ahead)) = cut(b'\n', rest) {
         let line = Line::new(alloc, bytes)?;
-        number += 1;
         if let Some(why) = first_reason(&so_far, &line) {
-            return Err(WorldFault::Bad { line: number, why });
+            return Err(WorldFault::Bad {
+                line: number + 1,
+                why,
+            });
         }
         if bytes == b"end".as_slice() {
             return ended(alloc, so_far, number, ahead);
         }
         so_far = so_far.with_line(alloc, &line)?;
+        number += 1;
         rest = ahead;
     }
     Err(WorldFault::Bad {
