@@ -5,6 +5,7 @@ use Rattle.ow_base.specs.declared.worlds.World.{World}
 use Rattle.world_file.specs.declared.why.Why.{Why}
 use Rattle.world_file.specs.WorldRefusals.{IsBuilt, IsRefused}
 use Rattle.world_file.specs.WorldReading.{Refusal, read_text}
+use Rattle.world_file.proofs.WorldAccepts.{world_accepted}
 use Rattle.world_file.proofs.WorldRefused.{unread_is_refused, refused_is_not_read, read_is_not_refused}
 
 -- what is read has the text, and is of the built forms
@@ -13,7 +14,7 @@ reads text world h = ?
 
 -- what has the text is read
 pub accepts : (text : List ℕ) (world : World) → IsWorld text world → IsBuilt world → read_text text ≡ Ok world
-accepts text world is built = ?
+accepts text world is built = world_accepted text world is built
 
 -- what is not read is refused at its line
 pub refuses : (text : List ℕ) (r : Refusal) → read_text text ≡ Err r → IsRefused text r.line r.why
@@ -22,10 +23,6 @@ refuses text r h = unread_is_refused text r h
 -- what is refused is not read, at the same line
 pub refused : (text : List ℕ) (line : ℕ) (why : Why) → IsRefused text line why → read_text text ≡ Err (record { line = line; why = why })
 refused text line why is = refused_is_not_read text line why is
-
--- each text has at most one value, in all the forms of World
-pub one_world : (text : List ℕ) (a b : World) → IsWorld text a → IsWorld text b → a ≡ b
-one_world text a b is_a is_b = ?
 
 -- what has the text of a world of the built forms is not refused
 pub built_is_not_refused : (text : List ℕ) (world : World) (line : ℕ) (why : Why) → IsWorld text world → IsBuilt world → IsRefused text line why → ⊥
