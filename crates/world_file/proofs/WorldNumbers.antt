@@ -7,7 +7,7 @@ use Rattle.std.proofs.lemmas.Option.{cond_some}
 use Rattle.std.proofs.lemmas.Slice.Eq.{bytes_eq-Decides}
 use Rattle.std.proofs.lemmas.Fmt.{decimal_is_IsNumeral}
 use Rattle.ow_base.specs.Lines.{hex_digit, hex8}
-use Rattle.world_file.specs.WorldReading.{number_read, number_of, word_of}
+use Rattle.world_file.specs.WorldLines.{number_read, number_of, word_of}
 
 pub both_true : (a b : Bool) → (a && b) ≡ true → (a ≡ true) × (b ≡ true)
 both_true true b h = (refl, h)

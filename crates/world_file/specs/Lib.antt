@@ -1,2 +1,6 @@
--- How a world is read from its text.
+-- Which texts are refused, at which line and why, and how a world is read.
+pub mod WorldLines
+pub mod WorldFacts
+pub mod WorldReasons
+pub mod WorldRefusals
 pub mod WorldReading

@@ -1,9 +1,17 @@
 //! Worlds, read from their texts.
 #![tactic(auto)]
 
+mod key;
+mod line;
 mod reader;
+mod reasons;
+mod so_far;
+mod why;
 
-pub use reader::{WorldFault, one_world, read_world};
+pub use reader::{WorldFault, one_refusal, one_world, read_world, worlds_are_read};
+pub use why::Why;
 
+#[cfg(test)]
+mod size_tests;
 #[cfg(test)]
 mod tests;

@@ -1,4 +1,5 @@
-use Rattle.world_file.proofs.WorldLaws.{one_world}
+-- A text has at most one world.
+use Rattle.world_file.proofs.WorldUnique.{one_world}
 use Rattle.world_file.proofs.reader.one_world.Goals as goal
 
 pub returns : goal.returns

@@ -1,8 +1,11 @@
-use Rattle.world_file.proofs.WorldLaws.{found_world, refused_text}
+use Rattle.world_file.proofs.WorldAnswers.{found, built, refused_as}
 use Rattle.world_file.proofs.reader.read_world.Goals as goal
 
 pub returns-clause-found : goal.returns-clause-found
-returns-clause-found c = found_world c.args.bytes.now c.world_in.result c.world_in.ensures
+returns-clause-found c = found c.args.bytes.now c.read_text.result c.read_text.ensures
+
+pub returns-clause-built : goal.returns-clause-built
+returns-clause-built c = built c.args.bytes.now c.read_text.result c.read_text.ensures
 
 pub returns-clause-refused : goal.returns-clause-refused
-returns-clause-refused c = refused_text c.args.bytes.now c.world_in.result c.world_in.ensures
+returns-clause-refused c = refused_as c.args.bytes.now c.read_text.result c.read_text.ensures

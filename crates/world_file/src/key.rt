@@ -1,0 +1,73 @@
+ghost use Rattle.std.specs.Prelude.{◌≡◌, bytes_eq};
+ghost use Rattle.world_file.specs.WorldLines.{key_of, is_unbuilt_word};
+
+/// What a line of a world text is, by its first word.
+#[derive(Clone, Copy, Debug, PartialEq, Eq)]
+pub enum Key {
+    World,
+    Frames,
+    Sectors,
+    Quantum,
+    Budget,
+    Program,
+    Code,
+    Data,
+    Start,
+    End,
+    /// A form that cannot be read yet.
+    Unbuilt,
+    /// No form has this word.
+    Unknown,
+}
+
+impl Key {
+    /// The key that a word is.
+    #[tactic(auto, unfolding(crate::specs::WorldLines::key_of))]
+    pub fn of(word: &[u8]) -> Key
+        ensures { result ≡ key_of word.now }
+    {
+        if is(word, b"world") {
+            Key::World
+        } else if is(word, b"frames") {
+            Key::Frames
+        } else if is(word, b"sectors") {
+            Key::Sectors
+        } else if is(word, b"quantum") {
+            Key::Quantum
+        } else if is(word, b"budget") {
+            Key::Budget
+        } else if is(word, b"program") {
+            Key::Program
+        } else if is(word, b"code") {
+            Key::Code
+        } else if is(word, b"data") {
+            Key::Data
+        } else if is(word, b"start") {
+            Key::Start
+        } else if is(word, b"end") {
+            Key::End
+        } else if is_unbuilt(word) {
+            Key::Unbuilt
+        } else {
+            Key::Unknown
+        }
+    }
+}
+
+fn is(word: &[u8], other: &[u8]) -> bool
+    ensures { result ≡ bytes_eq word.now other.now }
+{
+    word == other
+}
+
+// The first word of a line of files, of typed bytes or of panics.
+fn is_unbuilt(word: &[u8]) -> bool
+    ensures { result ≡ is_unbuilt_word word.now }
+{
+    is(word, b"file")
+        || is(word, b"put")
+        || is(word, b"type")
+        || is(word, b"panic")
+        || is(word, b"damage")
+        || is(word, b"again")
+}
