@@ -74,23 +74,6 @@ read_more f number text line rest cut no_reason other =
     ∙ ap (λ r. read_line r f number line (pieces 10 rest) more) no_reason
     ∙ ap (λ test. if test then ended f number (pieces 10 rest) else more) other
 
--- the reasons in three groups: the line's place, its fields, and what they name
-abbrev pub place_reasons : List Why
-place_reasons = FirstLine ∷ NotBuilt ∷ Word ∷ TooMany ∷ []
-
-abbrev pub field_reasons : List Why
-field_reasons = Fields ∷ Number ∷ Name ∷ Hex ∷ Escape ∷ []
-
-abbrev pub name_reasons : List Why
-name_reasons = Twice ∷ NoSuchProgram ∷ Order ∷ TooManyFrames ∷ TooManySectors ∷ []
-
-pub first_of_groups : (f : Facts) (line : Line)
-    → first_reason f line ≡ option_or (find (holds f line) place_reasons) (option_or (find (holds f line) field_reasons) (find (holds f line) name_reasons))
-unfolding first_reason
-first_of_groups f line =
-    find-append (holds f line) place_reasons (field_reasons ++ name_reasons)
-    ∙ ap (option_or (find (holds f line) place_reasons)) (find-append (holds f line) field_reasons name_reasons)
-
 -- a line without a reason may stand, and its kind may come again
 may_stand : (f : Facts) (line : Line) → first_reason f line ≡ None → (is_barred (place_of (key line) f) ≡ false) × (is_taken (place_of (key line) f) ≡ false)
 may_stand f line h =
