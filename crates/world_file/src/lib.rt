@@ -12,4 +12,6 @@ pub use reader::{WorldFault, one_refusal, one_world, read_world, worlds_are_read
 pub use why::Why;
 
 #[cfg(test)]
+mod size_tests;
+#[cfg(test)]
 mod tests;

@@ -115,10 +115,7 @@ fn pages_named(programs: &[Program], name: &[u8]) -> Option<usize>
 }
 
 // The finished blocks, with the one that now is.
-fn finished_with(
-    finished: Vec<Program>,
-    opened: Option<Block>,
-) -> Result<Vec<Program>, AllocError>
+fn finished_with(finished: Vec<Program>, opened: Option<Block>) -> Result<Vec<Program>, AllocError>
     ensures { IfOk result (λ all. all.items ≡ finished.items ++ option_to_list opened) }
 {
     let mut all = finished;
@@ -128,10 +125,7 @@ fn finished_with(
     Ok(all)
 }
 
-fn opened_with_code(
-    opened: Option<Block>,
-    line: &Line,
-) -> Result<Option<Block>, AllocError>
+fn opened_with_code(opened: Option<Block>, line: &Line) -> Result<Option<Block>, AllocError>
     ensures { IfOk result (λ block. block ≡ option_map (with_code (words_of line.now)) opened) }
 {
     match opened {
@@ -140,10 +134,7 @@ fn opened_with_code(
     }
 }
 
-fn opened_with_values(
-    opened: Option<Block>,
-    line: &Line,
-) -> Result<Option<Block>, AllocError>
+fn opened_with_values(opened: Option<Block>, line: &Line) -> Result<Option<Block>, AllocError>
     ensures { IfOk result (λ block. block ≡ option_map (with_values (words_of line.now)) opened) }
 {
     match opened {

@@ -18,7 +18,7 @@ const LINES: [&str; 10] = [
 
 // Line 1 or 2 of the world is replaced, and refused for this reason.
 const FIRST: [(usize, &str, Why); 65] = [
-(1, "world 2", Why::FirstLine),
+    (1, "world 2", Why::FirstLine),
     (1, "world", Why::FirstLine),
     (1, "world ", Why::FirstLine),
     (1, "world 1 ", Why::FirstLine),
@@ -161,7 +161,11 @@ const BLOCKS: [(usize, &str, Why); 70] = [
     (7, "file a", Why::NotBuilt),
     (7, "damage", Why::NotBuilt),
     (7, "again 1", Why::NotBuilt),
-    (7, "code 00000073 00000073 00000073 00000073 00000073 00000073 00000073 00000073 00000073 00000073 00000073 00000073 00000073 00000073 00000073 00000073 00000073", Why::TooMany),
+    (
+        7,
+        "code 00000073 00000073 00000073 00000073 00000073 00000073 00000073 00000073 00000073 00000073 00000073 00000073 00000073 00000073 00000073 00000073 00000073",
+        Why::TooMany,
+    ),
     (7, "code z z z z z z z z z z z z z z z z z", Why::TooMany),
     (7, "code                 ", Why::TooMany),
     (7, "code", Why::Fields),
@@ -185,7 +189,11 @@ const BLOCKS: [(usize, &str, Why); 70] = [
     (8, "end", Why::Word),
     (8, "world 1", Why::Word),
     (8, "Data 000a6948", Why::Word),
-    (8, "data 00000073 00000073 00000073 00000073 00000073 00000073 00000073 00000073 00000073 00000073 00000073 00000073 00000073 00000073 00000073 00000073 00000073", Why::TooMany),
+    (
+        8,
+        "data 00000073 00000073 00000073 00000073 00000073 00000073 00000073 00000073 00000073 00000073 00000073 00000073 00000073 00000073 00000073 00000073 00000073",
+        Why::TooMany,
+    ),
     (8, "data z z z z z z z z z z z z z z z z z", Why::TooMany),
     (8, "data", Why::Fields),
     (8, "data ", Why::Fields),
@@ -259,6 +267,125 @@ const LAST: [(usize, &str, Why); 55] = [
     (10, "end end", Why::Fields),
 ];
 
+// A line of the world is replaced, and the world is read.
+const READ: [(usize, &str); 13] = [
+    (2, "frames 16"),
+    (2, "frames 384"),
+    (3, "sectors 1"),
+    (3, "sectors 2048"),
+    (4, "quantum 1"),
+    (4, "quantum 10000"),
+    (5, "budget 0"),
+    (5, "budget 2000000"),
+    (7, "code 00000073"),
+    (7, "code 01234567 89abcdef 00000000 ffffffff"),
+    (8, "code 00000073"),
+    (8, "data 00000000 ffffffff"),
+    (9, "start a 1"),
+];
+
+// The line and the reason, where the world's lines stand otherwise.
+const MOVED: [(&[usize], Option<(u32, Why)>); 30] = [
+    (&[1, 2, 3, 4, 5, 6, 7, 8, 9, 10], None),
+    // Two lines change places.
+    (&[2, 1, 3, 4, 5, 6, 7, 8, 9, 10], Some((1, Why::FirstLine))),
+    (&[1, 3, 2, 4, 5, 6, 7, 8, 9, 10], Some((2, Why::Word))),
+    (&[1, 2, 4, 3, 5, 6, 7, 8, 9, 10], Some((3, Why::Word))),
+    (&[1, 2, 3, 5, 4, 6, 7, 8, 9, 10], Some((4, Why::Word))),
+    (&[1, 2, 3, 4, 6, 5, 7, 8, 9, 10], Some((5, Why::Word))),
+    (&[1, 2, 3, 4, 5, 7, 6, 8, 9, 10], Some((6, Why::Word))),
+    (&[1, 2, 3, 4, 5, 6, 8, 7, 9, 10], Some((7, Why::Word))),
+    (&[1, 2, 3, 4, 5, 6, 7, 9, 8, 10], Some((9, Why::Word))),
+    (&[1, 2, 3, 4, 5, 6, 7, 8, 10, 9], Some((9, Why::Word))),
+    // A line comes twice.
+    (&[1, 1, 2, 3, 4, 5, 6, 7, 8, 9, 10], Some((2, Why::TooMany))),
+    (&[1, 2, 2, 3, 4, 5, 6, 7, 8, 9, 10], Some((3, Why::TooMany))),
+    (&[1, 2, 3, 3, 4, 5, 6, 7, 8, 9, 10], Some((4, Why::TooMany))),
+    (&[1, 2, 3, 4, 4, 5, 6, 7, 8, 9, 10], Some((5, Why::TooMany))),
+    (&[1, 2, 3, 4, 5, 5, 6, 7, 8, 9, 10], Some((6, Why::TooMany))),
+    (&[1, 2, 3, 4, 5, 6, 6, 7, 8, 9, 10], Some((7, Why::Word))),
+    (&[1, 2, 3, 4, 5, 6, 7, 7, 8, 8, 9, 10], None),
+    (
+        &[1, 2, 3, 4, 5, 6, 7, 8, 9, 9, 10],
+        Some((10, Why::NotBuilt)),
+    ),
+    (&[1, 2, 3, 4, 5, 6, 7, 8, 9, 10, 10], Some((11, Why::End))),
+    (&[1, 2, 1, 3, 4, 5, 6, 7, 8, 9, 10], Some((3, Why::Word))),
+    // A line is left out.
+    (&[2, 3, 4, 5, 6, 7, 8, 9, 10], Some((1, Why::FirstLine))),
+    (&[1, 3, 4, 5, 6, 7, 8, 9, 10], Some((2, Why::Word))),
+    (&[1, 2, 4, 5, 6, 7, 8, 9, 10], Some((3, Why::Word))),
+    (&[1, 2, 3, 5, 6, 7, 8, 9, 10], Some((4, Why::Word))),
+    (&[1, 2, 3, 4, 6, 7, 8, 9, 10], Some((5, Why::Word))),
+    (&[1, 2, 3, 4, 5, 7, 8, 9, 10], Some((6, Why::Word))),
+    (&[1, 2, 3, 4, 5, 6, 8, 9, 10], Some((7, Why::Word))),
+    (&[1, 2, 3, 4, 5, 6, 7, 9, 10], None),
+    (&[1, 2, 3, 4, 5, 6, 7, 8, 10], Some((9, Why::Word))),
+    (&[1, 2, 3, 4, 5, 6, 7, 8, 9], Some((10, Why::End))),
+];
+
+// The line and the reason, where something else is behind the last line feed but one.
+const ENDS: [(&str, Option<(u32, Why)>); 9] = [
+    ("end\n", None),
+    ("", Some((10, Why::End))),
+    ("end", Some((10, Why::End))),
+    ("end x", Some((10, Why::End))),
+    ("end\n\n", Some((11, Why::End))),
+    ("end\nx", Some((11, Why::End))),
+    ("end\nend\n", Some((11, Why::End))),
+    ("end\nworld 2\nframes\n", Some((11, Why::End))),
+    ("end\r\n", Some((10, Why::Word))),
+];
+
+// The line and the reason, where other blocks and starts are behind the first five lines.
+const PROGRAMS: [(&str, Option<(u32, Why)>); 12] = [
+    (
+        "program a\ncode 00000073\nprogram b\ncode 00000073\nstart b 0\nend\n",
+        None,
+    ),
+    (
+        "program a\ncode 00000073\ndata 00000000\nprogram b\ncode 00000073\nstart a 1\nend\n",
+        None,
+    ),
+    (
+        "program a\nprogram b\ncode 00000073\nstart b 0\nend\n",
+        Some((7, Why::Word)),
+    ),
+    (
+        "program a\ncode 00000073\nprogram b\nstart a 0\nend\n",
+        Some((9, Why::Word)),
+    ),
+    (
+        "program a\ncode 00000073\nprogram b\ncode 00000073\nprogram a\n",
+        Some((10, Why::Twice)),
+    ),
+    (
+        "program a\ncode 00000073\nprogram b\ncode 00000073\nprogram b\n",
+        Some((10, Why::Twice)),
+    ),
+    (
+        "program a\ncode 00000073\nprogram b\ncode 00000073\nstart c 0\n",
+        Some((10, Why::NoSuchProgram)),
+    ),
+    (
+        "program a\ncode 00000073\nprogram b\ncode 00000073\nstart c 2\n",
+        Some((10, Why::Number)),
+    ),
+    (
+        "program a\ncode 00000073\nprogram b\ncode 00000073\nend\n",
+        Some((10, Why::Word)),
+    ),
+    (
+        "program nnnnnnnnnnnnnnnnnnnnnnnn\ncode 00000073\nstart nnnnnnnnnnnnnnnnnnnnnnnn 0\nend\n",
+        None,
+    ),
+    ("program !~\ncode 00000073\nstart !~ 0\nend\n", None),
+    (
+        "program a\ncode 00000073\nstart b 0\nend\nx\n",
+        Some((8, Why::NoSuchProgram)),
+    ),
+];
+
 // The line and the reason, where a text is refused.
 fn refusal(alloc: Global, text: &str) -> Result<Option<(u32, Why)>, AllocError> {
     match read_world(alloc, text.as_bytes()) {
@@ -283,7 +410,11 @@ fn refuses_first_lines(rt: HostRuntime) -> Result<(), Fail> {
     let alloc = rt.alloc();
     for (place, line, why) in FIRST {
         let text = with_line(alloc, place, line)?;
-        assert_eq!(rt; refusal(alloc, text.as_str())?, Some((place as u32, why)), "{line}");
+        assert_eq!(rt;
+            refusal(alloc, text.as_str())?,
+            Some((place as u32, why)),
+            "{line}"
+        );
     }
     Ok(())
 }
@@ -293,7 +424,11 @@ fn refuses_limits(rt: HostRuntime) -> Result<(), Fail> {
     let alloc = rt.alloc();
     for (place, line, why) in LIMITS {
         let text = with_line(alloc, place, line)?;
-        assert_eq!(rt; refusal(alloc, text.as_str())?, Some((place as u32, why)), "{line}");
+        assert_eq!(rt;
+            refusal(alloc, text.as_str())?,
+            Some((place as u32, why)),
+            "{line}"
+        );
     }
     Ok(())
 }
@@ -303,7 +438,11 @@ fn refuses_blocks(rt: HostRuntime) -> Result<(), Fail> {
     let alloc = rt.alloc();
     for (place, line, why) in BLOCKS {
         let text = with_line(alloc, place, line)?;
-        assert_eq!(rt; refusal(alloc, text.as_str())?, Some((place as u32, why)), "{line}");
+        assert_eq!(rt;
+            refusal(alloc, text.as_str())?,
+            Some((place as u32, why)),
+            "{line}"
+        );
     }
     Ok(())
 }
@@ -313,7 +452,81 @@ fn refuses_last_lines(rt: HostRuntime) -> Result<(), Fail> {
     let alloc = rt.alloc();
     for (place, line, why) in LAST {
         let text = with_line(alloc, place, line)?;
-        assert_eq!(rt; refusal(alloc, text.as_str())?, Some((place as u32, why)), "{line}");
+        assert_eq!(rt;
+            refusal(alloc, text.as_str())?,
+            Some((place as u32, why)),
+            "{line}"
+        );
+    }
+    Ok(())
+}
+
+#[test]
+fn reads_lines_at_their_limits(rt: HostRuntime) -> Result<(), Fail> {
+    let alloc = rt.alloc();
+    for (place, line) in READ {
+        let text = with_line(alloc, place, line)?;
+        assert_eq!(rt; refusal(alloc, text.as_str())?, None, "{line}");
+    }
+    Ok(())
+}
+
+#[test]
+fn tells_where_lines_may_stand(rt: HostRuntime) -> Result<(), Fail> {
+    let alloc = rt.alloc();
+    for (places, expected) in MOVED {
+        let mut text = String::new(alloc);
+        for place in places {
+            text.push_str(LINES.get(*place - 1).copied().unwrap_or(""))?;
+            text.push_str("\n")?;
+        }
+        assert_eq!(rt; refusal(alloc, text.as_str())?, expected, "{text}");
+    }
+    Ok(())
+}
+
+// The world's lines, up to this place.
+fn front(alloc: Global, count: usize) -> Result<String, AllocError> {
+    let mut text = String::new(alloc);
+    for line in LINES.iter().take(count) {
+        text.push_str(line)?;
+        text.push_str("\n")?;
+    }
+    Ok(text)
+}
+
+#[test]
+fn tells_where_a_text_ends(rt: HostRuntime) -> Result<(), Fail> {
+    let alloc = rt.alloc();
+    for (end, expected) in ENDS {
+        let mut text = front(alloc, 9)?;
+        text.push_str(end)?;
+        assert_eq!(rt; refusal(alloc, text.as_str())?, expected, "{end}");
+    }
+    // Cut after each of its bytes, a world ends early.
+    let whole = front(alloc, 10)?;
+    let mut lines = 0;
+    for (i, byte) in whole.bytes().enumerate() {
+        let text = whole.get(..i).unwrap_or("");
+        assert_eq!(rt;
+            refusal(alloc, text)?,
+            Some((lines + 1, Why::End)),
+            "{i} bytes"
+        );
+        if byte == b'\n' {
+            lines += 1;
+        }
+    }
+    Ok(())
+}
+
+#[test]
+fn tells_programs_apart(rt: HostRuntime) -> Result<(), Fail> {
+    let alloc = rt.alloc();
+    for (blocks, expected) in PROGRAMS {
+        let mut text = front(alloc, 5)?;
+        text.push_str(blocks)?;
+        assert_eq!(rt; refusal(alloc, text.as_str())?, expected, "{blocks}");
     }
     Ok(())
 }
