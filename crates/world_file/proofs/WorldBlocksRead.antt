@@ -93,7 +93,7 @@ code_passed k shape done name code values l ws place w is room =
       frames = rw key refl;
     }
 
-code_said : (k : Key) (shape : Shape) (done : List Program) (name code values : List ℕ) (l : Line) (ws : List ℕ) → words l ≡ codes "code" ∷ map hex8 ws → IsLineful ws
+pub code_said : (k : Key) (shape : Shape) (done : List Program) (name code values : List ℕ) (l : Line) (ws : List ℕ) → words l ≡ codes "code" ∷ map hex8 ws → IsLineful ws
     → with_line (at_program k shape done (Some (block name code values))) l ≡ at_program Code shape done (Some (block name (code ++ ws) values))
 unfolding with_line key_of words_of
 code_said k shape done name code values l ws w is =
@@ -127,7 +127,7 @@ data_passed k shape done name code values l ws place w is room =
       frames = rw key refl;
     }
 
-data_said : (k : Key) (shape : Shape) (done : List Program) (name code values : List ℕ) (l : Line) (ws : List ℕ) → words l ≡ codes "data" ∷ map hex8 ws → IsLineful ws
+pub data_said : (k : Key) (shape : Shape) (done : List Program) (name code values : List ℕ) (l : Line) (ws : List ℕ) → words l ≡ codes "data" ∷ map hex8 ws → IsLineful ws
     → with_line (at_program k shape done (Some (block name code values))) l ≡ at_program Data shape done (Some (block name code (values ++ ws)))
 unfolding with_line key_of words_of
 data_said k shape done name code values l ws w is =
@@ -162,7 +162,7 @@ code_read k shape done name code values (ws ∷ lines) rest world place is room 
     let p = code_passed k shape done name code values l ws place w is.0 (omega arith) in
     let s = code_said k shape done name code values l ws w is.0 in
     let last : Reads (at_program (last_of Code lines Code) shape done (Some (block name ((code ++ ws) ++ concat lines) values))) rest world =
-        rw (same_last Code lines, append_assoc code ws (concat lines)) more in
+    rw (same_last Code lines, append_assoc code ws (concat lines)) more in
     let next = code_read Code shape done name (code ++ ws) values lines rest world refl is.1 (omega arith) last in
     subst (λ t. Reads (at_program k shape done (Some (block name code values))) t world) (sym (append_assoc (word_line (codes "code") ws) (flat_map (word_line (codes "code")) lines) rest))
     (reads_line (at_program k shape done (Some (block name code values))) l others world (free_word_line (codes "code") ws refl) p refl
@@ -183,7 +183,7 @@ data_read k shape done name code values (ws ∷ lines) rest world place is room 
     let p = data_passed k shape done name code values l ws place w is.0 (omega arith) in
     let s = data_said k shape done name code values l ws w is.0 in
     let last : Reads (at_program (last_of Data lines Data) shape done (Some (block name code ((values ++ ws) ++ concat lines)))) rest world =
-        rw (same_last Data lines, append_assoc values ws (concat lines)) more in
+    rw (same_last Data lines, append_assoc values ws (concat lines)) more in
     let next = data_read Data shape done name code (values ++ ws) lines rest world refl is.1 (omega arith) last in
     subst (λ t. Reads (at_program k shape done (Some (block name code values))) t world) (sym (append_assoc (word_line (codes "data") ws) (flat_map (word_line (codes "data")) lines) rest))
     (reads_line (at_program k shape done (Some (block name code values))) l others world (free_word_line (codes "data") ws refl) p refl

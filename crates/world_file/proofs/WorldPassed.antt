@@ -10,7 +10,7 @@ use Rattle.world_file.specs.WorldFacts.{Facts}
 use Rattle.world_file.specs.WorldReasons.{first_reason, holds, reasons, is_no_first_line, is_unbuilt, is_barred, place_of, comes_too_often, lacks_fields, has_no_number, has_no_name, has_no_word, comes_twice, names_no_program, exceeds_frames}
 use Rattle.world_file.specs.WorldReading.{Refusal, with_line, world_of, is_nothing, ended, read_line, read_lines}
 use Rattle.world_file.proofs.WorldPieces.{free, has_piece, pieces_line}
-use Rattle.world_file.proofs.WorldFields.{same_bytes, bytes_eq_self}
+use Rattle.world_file.proofs.WorldNumbers.{same_bytes, bytes_eq_self}
 
 -- no reason holds for a line
 pub record IsPassed (f : Facts) (line : Line) : Type 0 where

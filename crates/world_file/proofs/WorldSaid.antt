@@ -14,7 +14,7 @@ use Rattle.world_file.specs.WorldReasons.{place_of, is_barred, is_taken, has_fie
 use Rattle.world_file.specs.declared.reasons.Place.{Place}
 use Rattle.world_file.specs.declared.reasons.Place.TheVariants.{Free, Taken, Barred}
 use Rattle.world_file.specs.WorldReading.{with_line, nothing_said}
-use Rattle.world_file.proofs.WorldFields.{same_bytes}
+use Rattle.world_file.proofs.WorldNumbers.{same_bytes}
 use Rattle.world_file.proofs.WorldSpelled.{spelled_two}
 use Rattle.world_file.proofs.WorldPassed.{IsPassed}
 use Rattle.world_file.proofs.WorldHead.{at_head, shape_with, first_said, frames_said, sectors_said, quantum_said, budget_said}

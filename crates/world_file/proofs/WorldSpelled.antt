@@ -5,7 +5,8 @@ use Rattle.std.proofs.lemmas.Fmt.{decimal_is_IsNumeral}
 use Rattle.ow_base.specs.Lines.{line, spaced, hex8}
 use Rattle.world_file.specs.WorldLines.{Line, words, pieces, word_of, is_word, is_empty}
 use Rattle.world_file.proofs.WorldPieces.{free, free-append, pieces_front, pieces_only, joined, joined-pieces}
-use Rattle.world_file.proofs.WorldFields.{both_true, word_of_reads, word_of_accepts, free_hex8}
+use Rattle.world_file.proofs.WorldNumbers.{both_true, word_of_reads, word_of_accepts}
+use Rattle.world_file.proofs.WorldFields.{free_hex8}
 
 pub one_word : (a : List ℕ) → free 32 a ≡ true → words a ≡ a ∷ []
 unfolding words
