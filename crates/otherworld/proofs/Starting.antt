@@ -10,9 +10,9 @@ use Rattle.ow_base.specs.declared.worlds.Start.{Start as Started}
 use Rattle.ow_plant.specs.State.{PlantState, silent_terminal as silent_device, Terminal as Device}
 use Rattle.otherworld.specs.State.{pages_at}
 use Rattle.otherworld.specs.declared.kernel_traps.Life.TheVariants.{Outside}
-use Rattle.otherworld.specs.State.{HasPages, unix_of, only, process_in, the_description, terminals_of, IsBuilt, IsTerminalSound, IsSound}
+use Rattle.otherworld.specs.State.{HasPages, unix_of, only, process_in, the_description, terminals_of, IsLoadOf, IsTerminalSound, IsSound}
 
-module _ (load : Load) (program : Program) (start : Started) (built : IsBuilt load program start) where
+module _ (load : Load) (program : Program) (start : Started) (built : IsLoadOf load program start) where
   starts_process : (pid : ℕ) → only (Some (process_in Out started_bank (started_pages program))) pid ≡ started_as load pid
   unfolding started_as started_process
   starts_process zero = refl
@@ -40,7 +40,7 @@ silent s room e f (suc (suc n)) =
     rw (none, one) refl
 
 -- the state after boot, part by part
-pub start_of-booted : (load : Load) (program : Program) (start : Started) (s : PlantState) (room : ℕ) → IsBuilt load program start
+pub start_of-booted : (load : Load) (program : Program) (start : Started) (s : PlantState) (room : ℕ) → IsLoadOf load program start
     → s.in_user ≡ false → pages_at s.memory ≡ started_pages program → s.tty0 ≡ silent_device room → s.tty1 ≡ silent_device room → s.steps ≡ 0 → s.traps ≡ 0
     → unix_of s (record { tty = start.tty; last = 0; life = Outside started_bank }) ≡ start_of load
 unfolding unix_of start_of

@@ -14,28 +14,35 @@ use Rattle.ow_base.specs.declared.worlds.PanicRecord.{PanicRecord}
 use Rattle.ow_base.specs.declared.worlds.Ending.TheVariants as ending
 use Rattle.ow_plant.specs.State.{PlantState}
 use Rattle.otherworld.specs.declared.kernel_traps.Kernel.{Kernel}
-use Rattle.otherworld.specs.State.{unix_of, IsBuilt, IsRunOver}
+use Rattle.otherworld.specs.State.{unix_of, IsLoadOf, IsRunOver}
 use Rattle.otherworld.specs.Top.{PlantAgrees, IsRead, IsReported, Intends, status_of, most_bytes}
 
--- an input that is read whole and is no world
-pub no_world : (left after : Option (List ℕ)) (bytes : List ℕ) → TakesAll left after bytes → length bytes ≤ most_bytes → ((world : World) → IsWorld bytes world → ⊥)
-    → OnTold left (λ told. (length told ≤ most_bytes) × ((world : World) → IsWorld told world → ⊥) × (after ≡ Some []))
-no_world None after bytes takes small none = tt
-no_world (Some told) after bytes takes small none = (rw (← takes.0) small, λ world value. none world (subst (λ (b : List ℕ). IsWorld b world) (sym takes.0) value), takes.1)
+-- an input that is read whole and is refused
+pub no_world : (left after : Option (List ℕ)) (bytes : List ℕ) (number : ℕ) (why : Why) → TakesAll left after bytes → length bytes ≤ most_bytes → IsRefused bytes number why
+    → IsNoWorld left after number why
+no_world None after bytes number why takes small refused = tt
+no_world (Some told) after bytes number why takes small refused =
+    (subst (λ (b : List ℕ). IsRefused b number why) takes.0 refused, takes.1 ∙ ap Some (sym (drop_past (most_bytes + 1) told (omega (arith, ap (λ (b : List ℕ). length b) takes.0)))))
 
--- a world's load is built
-pub IsBuilt-world : (input : List ℕ) (world : World) (program : Program) (start d : Started) → IsWorld input world → program ≡ get_or world.load.programs 0 program → start ≡ get_or world.load.starts 0 d → IsBuilt world.load program start
-IsBuilt-world input world program start d value p s =
-    let same_program : program ≡ value.program = p ∙ ap (λ (xs : List Program). get_or xs 0 program) value.one_program in
-    let same_start : start ≡ value.start = s ∙ ap (λ (xs : List Started). get_or xs 0 d) value.one_start in
-    rw (same_program, same_start) (record {
-      starts = value.one_start;
-      named = rw (value.one_program, value.named) refl;
-      tty = value.tty;
-      short_code = value.block.code.longest;
-      short_values = value.block.values.longest;
-      frames = value.frames;
-    })
+-- one that is too long is refused as a whole
+pub too_long : (left after : Option (List ℕ)) → TakesOver most_bytes left after → IsNoWorld left after 0 TooLarge
+too_long None after takes = tt
+too_long (Some told) after takes = (Long (record { longer = takes.0; reason = refl; number = refl }), takes.1)
+
+-- a program of a world has at most so many words
+sized : (programs : List Program) (text : List ℕ) (place : ℕ) (program : Program) → AreTexts IsProgram text programs → slice_get programs place ≡ Some program
+    → (length program.code ≤ 65536) × (length program.values ≤ 65536)
+unfolding AreTexts
+sized [] text place program are found = absurd (none-some program found)
+sized (p ∷ programs) text zero program are found =
+    let same : p ≡ program = cc found in
+    rw (← same) (are.3.0.code.longest, are.3.0.values.longest)
+sized (p ∷ programs) text (suc place) program are found = sized programs are.1 place program are.3.1 found
+
+-- a world's load has one start
+pub IsLoadOf-world : (input : List ℕ) (world : World) (program : Program) (start : Started) → IsWorld input world → world.load.starts ≡ start ∷ []
+    → slice_get world.load.programs start.program ≡ Some program → IsLoadOf world.load program start
+IsLoadOf-world input world program start value one found = ?
 
 -- a run that is over has left the plant as its state says
 pub PlantAgrees-over : (s : PlantState) (k : Kernel) → IsRunOver s → PlantAgrees s (unix_of s k)

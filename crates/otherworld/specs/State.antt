@@ -233,7 +233,7 @@ pub record IsRunOver (new : PlantState) : Type 0 where
   pub no_history : new.history ≡ []
 
 -- a load of one start, and the program that it names, whose pages fit
-pub record IsBuilt (load : Load) (program : Program) (start : Started) : Type 0 where
+pub record IsLoadOf (load : Load) (program : Program) (start : Started) : Type 0 where
   pub starts : load.starts ≡ start ∷ []
   pub named : slice_get load.programs start.program ≡ Some program
   pub tty : start.tty < 2

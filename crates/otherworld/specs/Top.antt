@@ -1,7 +1,7 @@
 -- What the program answers, and what it writes.
-use Rattle.std.specs.Prelude.{◌≡◌, ℕ, ◌≤◌, Bool, true, false, List, [], ◌∷◌, ◌++◌, length, codes, decimal, Option, Some, String, string_bytes, bytes_eq, ◌⊎◌}
+use Rattle.std.specs.Prelude.{◌≡◌, ℕ, ◌+◌, ◌≤◌, Bool, true, false, List, [], ◌∷◌, ◌++◌, length, drop, codes, decimal, Option, Some, String, string_bytes, bytes_eq, ◌⊎◌}
 use Rattle.ow_base.specs.Lines.{line}
-use Rattle.ow_base.specs.Outside.{appended, IsFront, OnTold, TakesOver}
+use Rattle.ow_base.specs.Outside.{appended, IsFront, OnTold}
 use Rattle.ow_base.specs.World.{IsWorld}
 use Rattle.ow_base.specs.Unix.{Unix}
 use Rattle.ow_base.specs.Run.{Run}
@@ -10,10 +10,11 @@ use Rattle.ow_base.specs.declared.worlds.World.{World}
 use Rattle.ow_base.specs.declared.worlds.Ending.{Ending}
 use Rattle.ow_base.specs.declared.worlds.Ending.TheVariants as ending
 use Rattle.ow_plant.specs.State.{PlantState}
+use Rattle.world_file.specs.declared.why.Why.{Why}
+use Rattle.world_file.specs.WorldReasons.{reason_text}
+use Rattle.world_file.specs.WorldRefusals.{IsRefused}
 use Rattle.otherworld.specs.declared.top.Status.{Status}
 use Rattle.otherworld.specs.declared.top.Status.TheVariants.{Done, Usage, BadWorld, ReadFault, WriteFault, Memory, Budget, Restarted}
-use Rattle.otherworld.specs.declared.top.Why.{Why}
-use Rattle.otherworld.specs.declared.top.Why.TheVariants.{NotBuilt, TooLarge}
 
 -- the one command that is built: the words are `run` alone
 abbrev pub is_run : {A : Type 0} → List (String A) → Bool
@@ -28,12 +29,8 @@ most_bytes = 1048576
 unfoldable pub usage_text : List ℕ
 usage_text = line (codes "usage: otherworld run | run --evidence | asm | gen N")
 
-abbrev pub reason_of : Why → List ℕ
-reason_of NotBuilt = codes "not built"
-reason_of TooLarge = codes "too large"
-
 unfoldable pub bad_world_text : (number : ℕ) → Why → List ℕ
-bad_world_text number why = codes "bad world line " ++ (decimal number ++ (codes ": " ++ line (reason_of why)))
+bad_world_text number why = codes "bad world line " ++ (decimal number ++ (codes ": " ++ line (reason_text why)))
 
 unfoldable pub read_fault_text : List ℕ
 read_fault_text = line (codes "read fault")
@@ -98,18 +95,16 @@ pub record IsReported (world : World) (plant : PlantState) (ending : Ending) (te
 abbrev pub IsRun : (left after : Option (List ℕ)) → (plant : PlantState) → Ending → (text : List ℕ) → Type 0
 IsRun left after plant ending text = (world : World) × IsRead left after world × IsReported world plant ending text
 
--- the input has too many bytes, of which one more than the most were taken; or all of it was, and it is no
--- world
-abbrev pub IsNoWorld : (left after : Option (List ℕ)) → Why → Type 0
-IsNoWorld left after TooLarge = TakesOver most_bytes left after
-IsNoWorld left after NotBuilt = OnTold left (λ bytes. (length bytes ≤ most_bytes) × ((world : World) → IsWorld bytes world → ⊥) × (after ≡ Some []))
+-- the input is refused at this line for this reason, and of a longer one no more was taken than tells that
+abbrev pub IsNoWorld : (left after : Option (List ℕ)) → (number : ℕ) → Why → Type 0
+IsNoWorld left after number why = OnTold left (λ bytes. IsRefused bytes number why × (after ≡ Some (drop (most_bytes + 1) bytes)))
 
 -- NamedCauses: why a status is answered, and the text that goes with it: the source has `left` before the call and
 -- `after` behind it, read_rose says that its faults rose, and the plant is `old` before the call and `new`
 -- behind it
 abbrev pub Intends : (is_run : Bool) → (left after : Option (List ℕ)) → (read_rose : Type 0) → (old new : PlantState) → Status → (text : List ℕ) → Type 0
 Intends is_run left after read_rose old new Usage text = (is_run ≡ false) × (after ≡ left) × (new ≡ old) × (text ≡ usage_text)
-Intends is_run left after read_rose old new (BadWorld number why) text = (is_run ≡ true) × (number ≡ 0) × IsNoWorld left after why × (new ≡ old) × (text ≡ bad_world_text number why)
+Intends is_run left after read_rose old new (BadWorld number why) text = (is_run ≡ true) × IsNoWorld left after number why × (new ≡ old) × (text ≡ bad_world_text number why)
 Intends is_run left after read_rose old new ReadFault text = (is_run ≡ true) × read_rose × (new ≡ old) × (text ≡ read_fault_text)
 Intends is_run left after read_rose old new Memory text = (is_run ≡ true) × (new ≡ old) × (text ≡ memory_text)
 Intends is_run left after read_rose old new Done text = (is_run ≡ true) × IsRun left after new ending.Done text

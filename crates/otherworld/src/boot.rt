@@ -4,7 +4,7 @@ ghost use Rattle.ow_base.specs.World.{started_page_count};
 ghost use Rattle.ow_base.specs.declared.worlds.Load.{Load};
 ghost use Rattle.phys_memory.specs.Memory.{IsSized, words_of, frame_count};
 ghost use Rattle.ow_plant.specs.State.{IsReady, with_stored};
-ghost use Rattle.otherworld.specs.State.{unix_of, IsBuilt, IsSound};
+ghost use Rattle.otherworld.specs.State.{unix_of, IsLoadOf, IsSound};
 ghost use Rattle.otherworld.specs.Boot.{with_words, with_leaves, with_program, with_tables};
 
 use crate::kernel_traps::{Kernel, Life};
@@ -173,7 +173,7 @@ pub fn boot(plant: &mut Plant, program: &Program, start: &Start) -> Kernel
     requires frames { started_page_count program.now ≤ plant.old.shape.user_frames }
     requires tty { start.now.tty < 2 }
     requires budget { plant.old.shape.budget ≤ 2000000 }
-    ensures started { (load : Load) → IsBuilt load program.now start.now → unix_of plant.new result ≡ start_of load }
+    ensures started { (load : Load) → IsLoadOf load program.now start.now → unix_of plant.new result ≡ start_of load }
     ensures sound { IsSound plant.new result }
     ensures same_shape { plant.new.shape ≡ plant.old.shape }
 {

@@ -1,6 +1,7 @@
 ghost use Rattle.std.specs.Prelude.{◌≡◌, ◌≤◌, ◌<◌, ◌+◌, List, ℕ, false, true, [], IfOk, IfErr, OnErr};
 ghost use Rattle.ow_base.specs.Outside.{Rose, Writes};
 ghost use Rattle.ow_base.specs.World.{IsWorld};
+ghost use Rattle.world_file.specs.WorldRefusals.{IsBuilt};
 ghost use Rattle.ow_base.specs.declared.worlds.Ending.{Ending};
 ghost use Rattle.ow_plant.specs.State.{IsReady};
 ghost use Rattle.otherworld.specs.Top.{is_run as is_run_alone, refusal_text, bad_world_text, status_of as status_at, Intends, IsSaid, IsRead, IsReported, Answers};
@@ -11,19 +12,10 @@ use crate::schedule_runner::run;
 use ow_base::{Ending, Failed, ReadAllFault, Sink, Source, World, put_all, put_number, read_all};
 use ow_plant::Plant;
 use std::alloc::{AllocError, Global};
-use world_file::{WorldFault, read_world};
+use world_file::{Why, WorldFault, read_world};
 
 /// The most bytes that a world may have.
 const MOST_BYTES: usize = 1_048_576;
-
-/// Why an input is no world.
-#[derive(Clone, Copy, Debug, PartialEq, Eq)]
-pub enum Why {
-    /// A form that is not built.
-    NotBuilt,
-    /// More bytes than a world may have.
-    TooLarge,
-}
 
 /// What a call of the program comes to.
 ///
@@ -99,10 +91,8 @@ fn put_bad_world<K: Sink>(sink: &mut K, line: u32, why: Why) -> Result<(), Faile
     put_all(sink, b"bad world line ")?;
     put_number(sink, line)?;
     put_all(sink, b": ")?;
-    match why {
-        Why::NotBuilt => put_all(sink, b"not built\n"),
-        Why::TooLarge => put_all(sink, b"too large\n"),
-    }
+    put_all(sink, why.text())?;
+    put_all(sink, b"\n")
 }
 
 /// Writes the text of a refusal. The other statuses have none here.
@@ -139,6 +129,7 @@ fn refuse<K: Sink>(sink: &mut K, status: Status) -> Status
 fn load_world<S: Source>(alloc: Global, source: &mut S, plant: &mut Plant) -> Result<World, Status>
     requires { plant.old.armed ≡ false }
     ensures read { IfOk result (IsRead (S.left source.old) (S.left source.new)) }
+    ensures built { IfOk result IsBuilt }
     ensures ready { IfOk result (λ world. IsReady world.load.shape plant.new) }
     ensures refused { IfErr result (λ status. Intends true (S.left source.old) (S.left source.new) (Rose (S.faults source.old) (S.faults source.new)) plant.old plant.new status (refusal_text status)) }
     ensures never_falls { S.faults source.old ≤ S.faults source.new }
@@ -156,12 +147,7 @@ fn load_world<S: Source>(alloc: Global, source: &mut S, plant: &mut Plant) -> Re
     };
     let world = match read_world(alloc, bytes.as_slice()) {
         Ok(world) => world,
-        Err(WorldFault::NotBuilt) => {
-            return Err(Status::BadWorld {
-                line: 0,
-                why: Why::NotBuilt,
-            });
-        }
+        Err(WorldFault::Bad { line, why }) => return Err(Status::BadWorld { line, why }),
         Err(WorldFault::Memory(_)) => return Err(Status::Memory),
     };
     match plant.arm(alloc, world.load.shape, &[], &[], &[]) {
@@ -174,14 +160,15 @@ fn load_world<S: Source>(alloc: Global, source: &mut S, plant: &mut Plant) -> Re
 fn run_world<K: Sink>(world: &World, plant: &mut Plant, sink: &mut K) -> Status
     requires ready { IsReady world.now.load.shape plant.old }
     requires value { (input : List ℕ) × IsWorld input world.now }
+    requires built { IsBuilt world.now }
     ensures reported { (ending : Ending) × (text : List ℕ) × IsReported world.now plant.new ending text
         × IsSaid text (status_at ending) (Rose (K.faults sink.old) (K.faults sink.new)) (K.written sink.old) (K.written sink.new) result }
     ensures never_falls { K.faults sink.old ≤ K.faults sink.new }
 {
-    let [program] = world.load.programs.items() else {
+    let [start] = world.load.starts.items() else {
         unreachable!()
     };
-    let [start] = world.load.starts.items() else {
+    let Some(program) = world.load.programs.items().get(start.program as usize) else {
         unreachable!()
     };
     let mut kernel = boot(plant, program, start);
