@@ -23,5 +23,8 @@ pub mod WorldKeys
 pub mod WorldAccepts
 pub mod WorldSaid
 pub mod WorldHeadSteps
+pub mod WorldBlockSteps
+pub mod WorldStarted
+pub mod WorldFound
 pub mod WorldLaws
 pub mod WorldAnswers

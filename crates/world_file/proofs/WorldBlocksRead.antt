@@ -93,7 +93,7 @@ code_passed k shape done name code values l ws place w is room =
       frames = rw key refl;
     }
 
-code_said : (k : Key) (shape : Shape) (done : List Program) (name code values : List ℕ) (l : Line) (ws : List ℕ) → words l ≡ codes "code" ∷ map hex8 ws → IsLineful ws
+pub code_said : (k : Key) (shape : Shape) (done : List Program) (name code values : List ℕ) (l : Line) (ws : List ℕ) → words l ≡ codes "code" ∷ map hex8 ws → IsLineful ws
     → with_line (at_program k shape done (Some (block name code values))) l ≡ at_program Code shape done (Some (block name (code ++ ws) values))
 unfolding with_line key_of words_of
 code_said k shape done name code values l ws w is =
@@ -127,7 +127,7 @@ data_passed k shape done name code values l ws place w is room =
       frames = rw key refl;
     }
 
-data_said : (k : Key) (shape : Shape) (done : List Program) (name code values : List ℕ) (l : Line) (ws : List ℕ) → words l ≡ codes "data" ∷ map hex8 ws → IsLineful ws
+pub data_said : (k : Key) (shape : Shape) (done : List Program) (name code values : List ℕ) (l : Line) (ws : List ℕ) → words l ≡ codes "data" ∷ map hex8 ws → IsLineful ws
     → with_line (at_program k shape done (Some (block name code values))) l ≡ at_program Data shape done (Some (block name code (values ++ ws)))
 unfolding with_line key_of words_of
 data_said k shape done name code values l ws w is =

@@ -6,11 +6,12 @@ use Rattle.world_file.specs.declared.why.Why.{Why}
 use Rattle.world_file.specs.WorldRefusals.{IsBuilt, IsRefused}
 use Rattle.world_file.specs.WorldReading.{Refusal, read_text}
 use Rattle.world_file.proofs.WorldAccepts.{world_accepted}
+use Rattle.world_file.proofs.WorldFound.{world_found}
 use Rattle.world_file.proofs.WorldRefused.{unread_is_refused, refused_is_not_read, read_is_not_refused}
 
 -- what is read has the text, and is of the built forms
 pub reads : (text : List ℕ) (world : World) → read_text text ≡ Ok world → IsWorld text world × IsBuilt world
-reads text world h = ?
+reads text world h = world_found text world h
 
 -- what has the text is read
 pub accepts : (text : List ℕ) (world : World) → IsWorld text world → IsBuilt world → read_text text ≡ Ok world
