@@ -213,18 +213,18 @@ world_accepted text world is built =
     let no_files = no_texts IsFile is.files_text world.load.files built.no_files is.files in
     let no_panics = no_texts (IsPanic shape.user_frames) is.panics_text world.panics built.no_panics is.panics in
     let spelled : text ≡ head_lines shape ++ (is.programs_text ++ rest) =
-        is.spelled
-        ∙ ap (λ fs. head_lines shape ++ (fs ++ (is.programs_text ++ (is.starts_text ++ (flat_map type_line is.typed ++ (is.panics_text ++ line (codes "end"))))))) no_files
-        ∙ ap (λ ss. head_lines shape ++ (is.programs_text ++ (ss ++ (flat_map type_line is.typed ++ (is.panics_text ++ line (codes "end")))))) started.spelled
-        ∙ ap (λ ts. head_lines shape ++ (is.programs_text ++ (start_line p start ++ (flat_map type_line ts ++ (is.panics_text ++ line (codes "end")))))) typed
-        ∙ ap (λ ps. head_lines shape ++ (is.programs_text ++ (start_line p start ++ (ps ++ line (codes "end"))))) no_panics in
+    is.spelled
+    ∙ ap (λ fs. head_lines shape ++ (fs ++ (is.programs_text ++ (is.starts_text ++ (flat_map type_line is.typed ++ (is.panics_text ++ line (codes "end"))))))) no_files
+    ∙ ap (λ ss. head_lines shape ++ (is.programs_text ++ (ss ++ (flat_map type_line is.typed ++ (is.panics_text ++ line (codes "end")))))) started.spelled
+    ∙ ap (λ ts. head_lines shape ++ (is.programs_text ++ (start_line p start ++ (flat_map type_line ts ++ (is.panics_text ++ line (codes "end")))))) typed
+    ∙ ap (λ ps. head_lines shape ++ (is.programs_text ++ (start_line p start ++ (ps ++ line (codes "end"))))) no_panics in
     let read = head_read shape (is.programs_text ++ rest) said is.shape
-        (blocks_end shape is.programs_text programs rest said is.some_program is.most_programs is.program_names is.programs
-        (λ last before current ends whole.
-            let apart = subst NamesApart (sym whole) is.program_names in
-            let found = subst (λ ps. slice_get ps start.program ≡ Some p) (sym whole) started.found in
-            let room = subst (λ ps. start_pages ps (start ∷ []) ≤ shape.user_frames) (sym whole) fits in
-            subst (λ ps. Reads (at_program last shape before current) rest (world_of (at_start shape ps start))) whole
-            (ends_read last shape before current p start ends apart found named started.tty room))) in
+    (blocks_end shape is.programs_text programs rest said is.some_program is.most_programs is.program_names is.programs
+    (λ last before current ends whole.
+    let apart = subst NamesApart (sym whole) is.program_names in
+    let found = subst (λ ps. slice_get ps start.program ≡ Some p) (sym whole) started.found in
+    let room = subst (λ ps. start_pages ps (start ∷ []) ≤ shape.user_frames) (sym whole) fits in
+    subst (λ ps. Reads (at_program last shape before current) rest (world_of (at_start shape ps start))) whole
+    (ends_read last shape before current p start ends apart found named started.tty room))) in
     let size = lt_is_false 1048576 (length text) is.longest in
     rw size (ap (λ t. read_lines nothing_said 0 (pieces 10 t)) spelled ∙ read 0 ∙ ap Ok (same_world world start one.1 built))

@@ -58,16 +58,16 @@ block_read k shape done o text program rest world opens is fresh room more =
     let some : 1 ≤ length (concat is.code.lines) = omega (arith, ap length code_is, is.some_code) in
     let last = last_of Data is.values.lines Code in
     let end : Reads (at_program last shape before (Some (block name (concat is.code.lines) (concat is.values.lines)))) rest world =
-        rw (code_is, values_is) (more last (ends_after is.values.lines)) in
+    rw (code_is, values_is) (more last (ends_after is.values.lines)) in
     let values = data_read Code shape before name (concat is.code.lines) [] is.values.lines rest world refl (recursion_from_All IsLineful is.values.lines is.values.sizes) (omega arith) end in
     let from_code : Reads (at_program (last_of Code is.code.lines ProgramKey) shape before (Some (block name (concat is.code.lines) []))) (data_text ++ rest) world =
-        rw (some_lines is.code.lines some) values in
+    rw (some_lines is.code.lines some) values in
     let code = code_read ProgramKey shape before name [] [] is.code.lines (data_text ++ rest) world refl (recursion_from_All IsLineful is.code.lines is.code.sizes) (omega arith) from_code in
     let first = reads_line (at_program k shape done o) l (codes_text ++ (data_text ++ rest)) world (free_program name is.named) (program_passed k shape done o l name opens w is.named fresh room) (line_not_end name)
-        (subst (λ f. Reads f (codes_text ++ (data_text ++ rest)) world) (sym (program_said k shape done o l name w)) code) in
+    (subst (λ f. Reads f (codes_text ++ (data_text ++ rest)) world) (sym (program_said k shape done o l name w)) code) in
     let whole : line l ++ (codes_text ++ (data_text ++ rest)) ≡ text ++ rest =
-        sym (ap (λ t. t ++ rest) (is.spelled ∙ ap (λ c. line l ++ (c ++ is.values_text)) is.code.spelled ∙ ap (λ v. line l ++ (codes_text ++ v)) is.values.spelled)
-        ∙ append_assoc (line l) (codes_text ++ data_text) rest ∙ ap (λ t. line l ++ t) (append_assoc codes_text data_text rest)) in
+    sym (ap (λ t. t ++ rest) (is.spelled ∙ ap (λ c. line l ++ (c ++ is.values_text)) is.code.spelled ∙ ap (λ v. line l ++ (codes_text ++ v)) is.values.spelled)
+    ∙ append_assoc (line l) (codes_text ++ data_text) rest ∙ ap (λ t. line l ++ t) (append_assoc codes_text data_text rest)) in
     subst (λ t. Reads (at_program k shape done o) t world) whole first
 
 -- names that are apart

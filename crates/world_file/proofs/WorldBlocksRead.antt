@@ -162,7 +162,7 @@ code_read k shape done name code values (ws ∷ lines) rest world place is room 
     let p = code_passed k shape done name code values l ws place w is.0 (omega arith) in
     let s = code_said k shape done name code values l ws w is.0 in
     let last : Reads (at_program (last_of Code lines Code) shape done (Some (block name ((code ++ ws) ++ concat lines) values))) rest world =
-        rw (same_last Code lines, append_assoc code ws (concat lines)) more in
+    rw (same_last Code lines, append_assoc code ws (concat lines)) more in
     let next = code_read Code shape done name (code ++ ws) values lines rest world refl is.1 (omega arith) last in
     subst (λ t. Reads (at_program k shape done (Some (block name code values))) t world) (sym (append_assoc (word_line (codes "code") ws) (flat_map (word_line (codes "code")) lines) rest))
     (reads_line (at_program k shape done (Some (block name code values))) l others world (free_word_line (codes "code") ws refl) p refl
@@ -183,7 +183,7 @@ data_read k shape done name code values (ws ∷ lines) rest world place is room 
     let p = data_passed k shape done name code values l ws place w is.0 (omega arith) in
     let s = data_said k shape done name code values l ws w is.0 in
     let last : Reads (at_program (last_of Data lines Data) shape done (Some (block name code ((values ++ ws) ++ concat lines)))) rest world =
-        rw (same_last Data lines, append_assoc values ws (concat lines)) more in
+    rw (same_last Data lines, append_assoc values ws (concat lines)) more in
     let next = data_read Data shape done name code (values ++ ws) lines rest world refl is.1 (omega arith) last in
     subst (λ t. Reads (at_program k shape done (Some (block name code values))) t world) (sym (append_assoc (word_line (codes "data") ws) (flat_map (word_line (codes "data")) lines) rest))
     (reads_line (at_program k shape done (Some (block name code values))) l others world (free_word_line (codes "data") ws refl) p refl

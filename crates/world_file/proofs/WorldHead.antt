@@ -183,12 +183,12 @@ head_read shape rest world is more =
     let s2 = shape_with u s 0 0 in
     let s3 = shape_with u s q 0 in
     let d = number_line_read (at_head Quantum s3) (at_head Budget shape) (codes "budget") b rest world (free_number_line (codes "budget") b refl bb) refl
-        (budget_passed s3 (spaced (codes "budget") (decimal b)) b wb (omega arith) is.most_steps) (budget_said s3 (spaced (codes "budget") (decimal b)) b wb bb) more in
+    (budget_passed s3 (spaced (codes "budget") (decimal b)) b wb (omega arith) is.most_steps) (budget_said s3 (spaced (codes "budget") (decimal b)) b wb bb) more in
     let c = number_line_read (at_head Sectors s2) (at_head Quantum s3) (codes "quantum") q r4 world (free_number_line (codes "quantum") q refl bq) refl
-        (quantum_passed s2 (spaced (codes "quantum") (decimal q)) q wq is.shortest_slice is.longest_slice) (quantum_said s2 (spaced (codes "quantum") (decimal q)) q wq bq) d in
+    (quantum_passed s2 (spaced (codes "quantum") (decimal q)) q wq is.shortest_slice is.longest_slice) (quantum_said s2 (spaced (codes "quantum") (decimal q)) q wq bq) d in
     let e = number_line_read (at_head Frames s1) (at_head Sectors s2) (codes "sectors") s r3 world (free_number_line (codes "sectors") s refl bs) refl
-        (sectors_passed s1 (spaced (codes "sectors") (decimal s)) s ws is.fewest_sectors is.most_sectors) (sectors_said s1 (spaced (codes "sectors") (decimal s)) s ws bs) c in
+    (sectors_passed s1 (spaced (codes "sectors") (decimal s)) s ws is.fewest_sectors is.most_sectors) (sectors_said s1 (spaced (codes "sectors") (decimal s)) s ws bs) c in
     let a = number_line_read (at_head WorldKey no_shape) (at_head Frames s1) (codes "frames") u r2 world (free_number_line (codes "frames") u refl bu) refl
-        (frames_passed no_shape (spaced (codes "frames") (decimal u)) u wu is.fewest_frames is.most_frames) (frames_said no_shape (spaced (codes "frames") (decimal u)) u wu bu) e in
+    (frames_passed no_shape (spaced (codes "frames") (decimal u)) u wu is.fewest_frames is.most_frames) (frames_said no_shape (spaced (codes "frames") (decimal u)) u wu bu) e in
     let z = reads_line nothing_said (codes "world 1") r1 world refl first_passed refl (subst (λ h. Reads h r1 world) (sym first_said) a) in
     subst (λ t. Reads nothing_said t world) (sym (five (line (codes "world 1")) (number_line (codes "frames") u) (number_line (codes "sectors") s) (number_line (codes "quantum") q) (number_line (codes "budget") b) rest)) z

@@ -96,8 +96,8 @@ budget_step text f l u s q in_u in_s in_q t e is =
     let found = limit_found (at_head Quantum before) l 0 2000000 (codes "budget") Budget k (first_word l Budget k) refl refl p in
     let shape = shape_with u s q found.0 in
     let spelled : text ++ line l ≡ head_lines shape =
-        ap (λ t. t ++ line l) t ∙ four (line (codes "world 1")) (number_line (codes "frames") u) (number_line (codes "sectors") s) (number_line (codes "quantum") q) (line l)
-        ∙ ap (λ l. line (codes "world 1") ++ (number_line (codes "frames") u ++ (number_line (codes "sectors") s ++ (number_line (codes "quantum") q ++ line l)))) (spelled_two l (codes "budget") (decimal found.0) found.1) in
+    ap (λ t. t ++ line l) t ∙ four (line (codes "world 1")) (number_line (codes "frames") u) (number_line (codes "sectors") s) (number_line (codes "quantum") q) (line l)
+    ∙ ap (λ l. line (codes "world 1") ++ (number_line (codes "frames") u ++ (number_line (codes "sectors") s ++ (number_line (codes "quantum") q ++ line l)))) (spelled_two l (codes "budget") (decimal found.0) found.1) in
     ToBudget shape (record {
       blocks = [];
       spelled = spelled ∙ sym (append-nil (head_lines shape));
