@@ -1,13 +1,9 @@
 -- A text has at most one first line, and a line at most one first word; what is spelled so has at most one value.
-use Rattle.std.proofs.Common.{◌≡◌, ℕ, ◌+◌, ◌/◌, ◌%◌, ◌^◌, ◌<◌, ◌≤◌, Bool, true, false, not, nat_lt, ◌&&◌, ◌==◌, if◌then◌else◌, List, [], ◌∷◌, ◌++◌, length, decimal, arith, ap, ◌∙◌, sym, refl, append_assoc, eq-eqb}
-use Rattle.std.specs.Char.{digit_value}
-use Rattle.std.specs.Str.Parse.{AllDigits, digits_value}
+use Rattle.std.proofs.Common.{◌≡◌, ℕ, ◌^◌, ◌<◌, true, ◌==◌, List, [], ◌∷◌, ◌++◌, length, decimal, arith, ap, ◌∙◌, sym, refl, append_assoc, eq-eqb}
+use Rattle.std.specs.Str.Parse.{digits_value}
 use Rattle.std.specs.List.{AllByRecursion, flat_map}
-use Rattle.std.proofs.lemmas.Fmt.{decimal_is_IsNumeral, decimal_injective}
-use Rattle.std.proofs.lemmas.Grind.{common_steps}
-use Rattle.std.proofs.lemmas.List.Elements.{recursion_from_All}
-use Rattle.ow_base.specs.Lines.{line, hex_digit, hex8}
-use Rattle.ow_base.specs.World.{IsName}
+use Rattle.std.proofs.lemmas.Fmt.{decimal_injective}
+use Rattle.ow_base.specs.Lines.{line, hex8}
 use Rattle.world_file.proofs.WorldPieces.{free, free_parts}
 use Rattle.world_file.proofs.WorldNumbers.{value_of_word}
 use Rattle.world_file.proofs.WorldSpelled.{word_text}

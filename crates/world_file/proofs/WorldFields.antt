@@ -1,17 +1,15 @@
 -- Numbers in decimal, words in hexadecimal and names, read and spelled.
-use Rattle.std.proofs.Common.{◌≡◌, ℕ, ◌+◌, ◌/◌, ◌%◌, ◌^◌, ◌<◌, ◌≤◌, Bool, true, false, ◌&&◌, nat_lt, nat_le, ◌==◌, List, [], ◌∷◌, ◌++◌, length, Option, Some, None, bytes_eq, decimal, arith, ap, ◌∙◌, sym, refl, if◌then◌else◌}
+use Rattle.std.proofs.Common.{◌≡◌, ℕ, ◌+◌, ◌/◌, ◌%◌, ◌^◌, ◌<◌, ◌≤◌, Bool, true, false, ◌&&◌, nat_lt, nat_le, ◌==◌, List, [], ◌∷◌, length, decimal, arith, ap, refl, if◌then◌else◌}
 use Rattle.std.specs.Char.{digit_value}
-use Rattle.std.specs.Str.Parse.{digits_value, AllDigits}
+use Rattle.std.specs.Str.Parse.{AllDigits}
 use Rattle.std.specs.List.{AllByRecursion, list_all}
 use Rattle.std.proofs.lemmas.Grind.{common_steps}
-use Rattle.std.proofs.lemmas.Option.{cond_some}
 use Rattle.std.proofs.lemmas.List.Elements.{All-from_recursion, recursion_from_All}
-use Rattle.std.proofs.lemmas.Slice.Eq.{bytes_eq-Decides}
 use Rattle.std.proofs.lemmas.Fmt.{decimal_is_IsNumeral}
 use Rattle.ow_base.specs.Lines.{hex_digit, hex8}
 use Rattle.ow_base.specs.World.{IsName}
-use Rattle.world_file.specs.WorldLines.{number_read, number_of, word_of, is_visible, is_name}
-use Rattle.world_file.proofs.WorldPieces.{free, free-append, free_above, other}
+use Rattle.world_file.specs.WorldLines.{is_visible, is_name}
+use Rattle.world_file.proofs.WorldPieces.{free, free_above, other}
 use Rattle.world_file.proofs.WorldNumbers.{both_true, and_true}
 
 pub le_true : (a b : ℕ) → nat_le a b ≡ true → a ≤ b
