@@ -1,7 +1,15 @@
 -- How the parts of a call of the program make its answer.
-use Rattle.std.proofs.Common.{◌≡◌, ℕ, ◌≤◌, true, List, [], length, get_or, Option, Some, None, refl, ap, sym, subst, ◌∙◌}
-use Rattle.ow_base.specs.Outside.{OnTold, TakesAll}
-use Rattle.ow_base.specs.World.{IsWorld}
+use Rattle.std.proofs.Common.{◌≡◌, ℕ, zero, suc, ◌+◌, ◌<◌, ◌≤◌, true, List, [], ◌∷◌, length, drop, get_or, slice_get, Option, Some, None, refl, ap, sym, subst, ◌∙◌, arith}
+use Rattle.std.proofs.lemmas.Option.{none-some}
+use Rattle.std.proofs.lemmas.Grind.{common_steps}
+use Rattle.ow_base.specs.Outside.{OnTold, TakesAll, TakesOver}
+use Rattle.ow_base.specs.World.{IsWorld, IsProgram, IsStart, AreTexts, start_pages}
+use Rattle.world_file.specs.declared.why.Why.{Why}
+use Rattle.world_file.specs.declared.why.Why.TheVariants.{TooLarge}
+use Rattle.world_file.specs.declared.reader.WorldFault.{WorldFault}
+use Rattle.world_file.specs.declared.reader.WorldFault.TheVariants.{Bad}
+use Rattle.world_file.specs.declared.reader.WorldFault.TheVariants as fault
+use Rattle.world_file.specs.WorldRefusals.{IsRefused, IsRefusedFault, Long, IsBuilt}
 use Rattle.ow_base.specs.Unix.{Unix, start_of}
 use Rattle.ow_base.specs.Run.{Run, RunsFrom}
 use Rattle.ow_base.specs.Report.{report_of}
@@ -15,7 +23,14 @@ use Rattle.ow_base.specs.declared.worlds.Ending.TheVariants as ending
 use Rattle.ow_plant.specs.State.{PlantState}
 use Rattle.otherworld.specs.declared.kernel_traps.Kernel.{Kernel}
 use Rattle.otherworld.specs.State.{unix_of, IsLoadOf, IsRunOver}
-use Rattle.otherworld.specs.Top.{PlantAgrees, IsRead, IsReported, Intends, status_of, most_bytes}
+use Rattle.otherworld.specs.Top.{PlantAgrees, IsRead, IsReported, IsNoWorld, Intends, status_of, unread_status, refusal_text, most_bytes}
+
+-- behind the last byte there is none
+drop_past : (n : ℕ) (bytes : List ℕ) → length bytes ≤ n → drop n bytes ≡ []
+drop_past zero [] small = refl
+drop_past (suc n) [] small = refl
+drop_past zero (b ∷ bs) small = absurd (omega arith)
+drop_past (suc n) (b ∷ bs) small = drop_past n bs (omega arith)
 
 -- an input that is read whole and is refused
 pub no_world : (left after : Option (List ℕ)) (bytes : List ℕ) (number : ℕ) (why : Why) → TakesAll left after bytes → length bytes ≤ most_bytes → IsRefused bytes number why
@@ -29,6 +44,12 @@ pub too_long : (left after : Option (List ℕ)) → TakesOver most_bytes left af
 too_long None after takes = tt
 too_long (Some told) after takes = (Long (record { longer = takes.0; reason = refl; number = refl }), takes.1)
 
+-- what a world that was not read intends
+pub unread_intends : (left after : Option (List ℕ)) (bytes : List ℕ) (rose : Type 0) (plant : PlantState) (fault : WorldFault) → TakesAll left after bytes → length bytes ≤ most_bytes
+    → IsRefusedFault bytes fault → Intends true left after rose plant plant (unread_status fault) (refusal_text (unread_status fault))
+unread_intends left after bytes rose plant (Bad number why) takes small refused = (refl, no_world left after bytes number why takes small refused, refl, refl)
+unread_intends left after bytes rose plant (fault.Memory e) takes small refused = (refl, refl, refl)
+
 -- a program of a world has at most so many words
 sized : (programs : List Program) (text : List ℕ) (place : ℕ) (program : Program) → AreTexts IsProgram text programs → slice_get programs place ≡ Some program
     → (length program.code ≤ 65536) × (length program.values ≤ 65536)
@@ -36,13 +57,44 @@ unfolding AreTexts
 sized [] text place program are found = absurd (none-some program found)
 sized (p ∷ programs) text zero program are found =
     let same : p ≡ program = cc found in
-    rw (← same) (are.3.0.code.longest, are.3.0.values.longest)
-sized (p ∷ programs) text (suc place) program are found = sized programs are.1 place program are.3.1 found
+    rw (← same) (are.3.code.longest, are.3.values.longest)
+sized (p ∷ programs) text (suc place) program are found = sized programs are.1 place program are.4 found
 
--- a world's load has one start
-pub IsLoadOf-world : (input : List ℕ) (world : World) (program : Program) (start : Started) → IsWorld input world → world.load.starts ≡ start ∷ []
-    → slice_get world.load.programs start.program ≡ Some program → IsLoadOf world.load program start
-IsLoadOf-world input world program start value one found = ?
+-- a list of one is its first
+one_of : (starts : List Started) (d : Started) → length starts ≡ 1 → starts ≡ get_or starts 0 d ∷ []
+one_of [] d one = absurd (omega (arith, one))
+one_of (s ∷ []) d one = refl
+one_of (s ∷ t ∷ rest) d one = absurd (omega (arith, one))
+
+-- what is found at a place lies there
+located : (programs : List Program) (place : ℕ) (program d : Program) → slice_get programs place ≡ Some program → (place < length programs) × (get_or programs place d ≡ program)
+located [] place program d found = absurd (none-some program found)
+located (p ∷ programs) zero program d found = (omega arith, cc found)
+located (p ∷ programs) (suc place) program d found = let there = located programs place program d found in (omega (arith, there.0), there.1)
+
+-- a world's load with one start
+of_start : (input : List ℕ) (world : World) (d : Program) (start : Started) → IsWorld input world → world.load.starts ≡ start ∷ []
+    → (start.program < length world.load.programs) × IsLoadOf world.load (get_or world.load.programs start.program d) start
+unfolding AreTexts
+of_start input world d start value one =
+    let is = (rw one at value.starts).3 in
+    let there = located world.load.programs start.program is.program d is.found in
+    let sizes = sized world.load.programs value.programs_text start.program is.program value.programs is.found in
+    let pages = rw (one, is.found) at value.frames in (
+      there.0,
+      rw there.1 (record {
+        starts = one;
+        named = is.found;
+        tty = is.tty;
+        short_code = sizes.0;
+        short_values = sizes.1;
+        frames = omega (arith, pages);
+      }),
+    )
+
+pub one_load : (input : List ℕ) (world : World) (d : Program) (s : Started) → IsWorld input world → length world.load.starts ≡ 1
+    → ((get_or world.load.starts 0 s).program < length world.load.programs) × IsLoadOf world.load (get_or world.load.programs (get_or world.load.starts 0 s).program d) (get_or world.load.starts 0 s)
+one_load input world d s value one = of_start input world d (get_or world.load.starts 0 s) value (one_of world.load.starts s one)
 
 -- a run that is over has left the plant as its state says
 pub PlantAgrees-over : (s : PlantState) (k : Kernel) → IsRunOver s → PlantAgrees s (unix_of s k)

@@ -20,43 +20,49 @@ use Rattle.ow_base.specs.declared.worlds.Ending.{Ending}
 use Rattle.ow_base.specs.declared.worlds.Ending.TheVariants.{Done, Budget, Restarted}
 use Rattle.ow_base.specs.declared.worlds.PanicRecord.{PanicRecord}
 use Rattle.ow_plant.specs.State.{PlantState}
-use Rattle.world_file.specs.WorldReading.{cut, pieces, behind_line, number_of, word_of, number_at, shape_at, word_at, words_in, word_line_at, word_lines_at, name_at, program_at, start_at, world_in}
-use Rattle.world_file.proofs.WorldLaws.{text_reads, world_accepts, one_world}
+use Rattle.world_file.specs.WorldLines.{pieces, words, key_of, number_of, word_of, is_name, words_of}
+use Rattle.world_file.specs.WorldReasons.{first_reason}
+use Rattle.world_file.specs.WorldReading.{with_line, read_lines, read_text}
+use Rattle.world_file.specs.WorldRefusals.{IsRefused, IsBuilt}
+use Rattle.world_file.specs.declared.why.Why.{Why}
+use Rattle.world_file.specs.declared.why.Why.TheVariants.{Number, End}
+use Rattle.world_file.proofs.WorldLaws.{reads, refuses, built_is_not_refused}
+use Rattle.world_file.proofs.WorldUnique.{one_world}
 use Rattle.otherworld.specs.declared.top.Status.{Status}
 use Rattle.otherworld.specs.declared.top.Status.TheVariants as status
-use Rattle.otherworld.specs.declared.top.Why.TheVariants.{NotBuilt, TooLarge}
 use Rattle.otherworld.specs.Top.{Answers, Intends, IsSaid, IsRun, IsReported, most_bytes, memory_text}
 use Rattle.otherworld.specs.Rows.{worked_world, exit_seven, exit_seven_text, exit_seven_report, hi, hi_text, hi_report, few_frames_text, no_end_text, turned, after}
 
 -- `unfolding rows` lets `refl` compute the reading of a text, a run and a report
 unfoldable pub rows : Unit {0}
-unfolding digits hex8 escaped_byte immediate_act register_act branch_act load_act store_act system_act act_of gone_to after_load after_store acted after_fetch user_step page_space is_readable bytes_at started_rights started_byte started_pages started_process started_as started_description start_of least_from chosen is_any_live settled trapped answered stays_in ended_as description_of tty_write write_entry exit_entry called entered continued piece_of step_of stepped user_turn idled turn_at turn ending_of closed blank_screen on_next_line printed drawn screen_of head_text status_words process_lines out_lines trimmed row_lines screen_text terminal_text report_of cut pieces behind_line number_of word_of number_at shape_at word_at words_in word_line_at word_lines_at name_at program_at start_at world_in worked_world exit_seven exit_seven_text exit_seven_report hi hi_text hi_report few_frames_text no_end_text turned after
+unfolding digits hex8 escaped_byte immediate_act register_act branch_act load_act store_act system_act act_of gone_to after_load after_store acted after_fetch user_step page_space is_readable bytes_at started_rights started_byte started_pages started_process started_as started_description start_of least_from chosen is_any_live settled trapped answered stays_in ended_as description_of tty_write write_entry exit_entry called entered continued piece_of step_of stepped user_turn idled turn_at turn ending_of closed blank_screen on_next_line printed drawn screen_of head_text status_words process_lines out_lines trimmed row_lines screen_text terminal_text report_of pieces words key_of number_of word_of is_name words_of first_reason with_line read_lines read_text worked_world exit_seven exit_seven_text exit_seven_report hi hi_text hi_report few_frames_text no_end_text turned after
 rows = tt
 
 -- the texts of the worlds
 pub exit_seven_world : IsWorld exit_seven_text exit_seven
 unfolding rows
-exit_seven_world = text_reads exit_seven_text exit_seven refl
+exit_seven_world = (reads exit_seven_text exit_seven refl).0
 
 pub hi_world : IsWorld hi_text hi
 unfolding rows
-hi_world = text_reads hi_text hi refl
+hi_world = (reads hi_text hi refl).0
 
--- a text that reads as nothing is that of no world
-no_world : (text : List ℕ) (world : World) → world_in (pieces 10 text) ≡ None → IsWorld text world → ⊥
-no_world text world none is = none-some world (sym none ∙ world_accepts text world is)
-
-pub empty_no_world : (world : World) → IsWorld [] world → ⊥
+hi_built : IsBuilt hi
 unfolding rows
-empty_no_world world is = no_world [] world refl is
+hi_built = (reads hi_text hi refl).1
 
-pub few_frames_no_world : (world : World) → IsWorld few_frames_text world → ⊥
+-- the texts that are refused
+pub empty_refused : IsRefused [] 1 End
 unfolding rows
-few_frames_no_world world is = no_world few_frames_text world refl is
+empty_refused = refuses [] (record { line = 1; why = End }) refl
 
-pub no_end_no_world : (world : World) → IsWorld no_end_text world → ⊥
+pub few_frames_refused : IsRefused few_frames_text 2 Number
 unfolding rows
-no_end_no_world world is = no_world no_end_text world refl is
+few_frames_refused = refuses few_frames_text (record { line = 2; why = Number }) refl
+
+pub no_end_refused : IsRefused no_end_text 9 End
+unfolding rows
+no_end_refused = refuses no_end_text (record { line = 9; why = End }) refl
 
 -- a turn more of a run that ends done
 more : (shape : Shape) (u w : Unix) → ending_of shape u ≡ None → RunsFrom shape (turn shape u) [] Done w → RunsFrom shape u [] Done w
@@ -118,10 +124,6 @@ one_report left plant ending text run =
     let found = of_hi plant ending text (subst (λ world. IsReported world plant ending text) same run.2) in
     (found.0, found.1, found.2, read.told.1, found.3)
 
-hi_is_small : most_bytes < length hi_text → ⊥
-unfolding rows
-hi_is_small more = omega (arith, more)
-
 module _ (left : Option (List ℕ)) (read_rose : Type 0) (old new : PlantState) where
   -- a status that may be answered to the text of hi
   abbrev Meant : Status → (text : List ℕ) → Type 0
@@ -130,8 +132,7 @@ module _ (left : Option (List ℕ)) (read_rose : Type 0) (old new : PlantState) 
 
   meant : (answer : Status) (text : List ℕ) → (read_rose → ⊥) → Intends true (Some hi_text) left read_rose old new answer text → Meant answer text
   meant status.Usage text calm is = absurd (cc is.0)
-  meant (status.BadWorld number NotBuilt) text calm is = absurd (is.2.1 hi hi_world)
-  meant (status.BadWorld number TooLarge) text calm is = absurd (hi_is_small is.2.0)
+  meant (status.BadWorld number why) text calm is = absurd (built_is_not_refused hi_text hi number why hi_world hi_built is.1.0)
   meant status.ReadFault text calm is = absurd (calm is.1)
   meant status.WriteFault text calm is = absurd is
   meant status.Memory text calm is = inr (refl, is.2, is.1)

@@ -1,4 +1,4 @@
--- Two worked worlds, with their texts and reports, and three texts that spell no world.
+-- Two worked worlds, with their texts and reports, and two texts that are refused.
 use Rattle.std.specs.Prelude.{ℕ, zero, suc, List, [], ◌∷◌, codes}
 use Rattle.ow_base.specs.Unix.{Unix, start_of}
 use Rattle.ow_base.specs.Turn.{turn}
@@ -45,7 +45,7 @@ unfoldable pub few_frames_text : List ℕ
 few_frames_text = codes "world 1\nframes 5\nsectors 4\nquantum 100\nbudget 1000\nprogram a\ncode 00100513 000115b7 00300613 00200893 00000073 00000513 00100893 00000073\ndata 000a6948\nstart a 0\nend\n"
 
 unfoldable pub no_end_text : List ℕ
-no_end_text = codes "world 1\nframes 32\nsectors 4\nquantum 100\nbudget 1000\nprogram a\ncode 00100513 000115b7 00300613 00200893 00000073 00000513 00100893 00000073\ndata 000a6948\nstart a 0\n"
+no_end_text = codes "world 1\nframes 32\nsectors 4\nquantum 100\nbudget 1000\nprogram a\ncode 00700513 00100893 00000073\nstart a 0\n"
 
 -- the state after so many turns from one
 unfoldable pub turned : Shape → Unix → (count : ℕ) → Unix

@@ -11,6 +11,9 @@ use Rattle.ow_base.specs.declared.worlds.Ending.{Ending}
 use Rattle.ow_base.specs.declared.worlds.Ending.TheVariants as ending
 use Rattle.ow_plant.specs.State.{PlantState}
 use Rattle.world_file.specs.declared.why.Why.{Why}
+use Rattle.world_file.specs.declared.reader.WorldFault.{WorldFault}
+use Rattle.world_file.specs.declared.reader.WorldFault.TheVariants.{Bad}
+use Rattle.world_file.specs.declared.reader.WorldFault.TheVariants as fault
 use Rattle.world_file.specs.WorldReasons.{reason_text}
 use Rattle.world_file.specs.WorldRefusals.{IsRefused}
 use Rattle.otherworld.specs.declared.top.Status.{Status}
@@ -65,6 +68,11 @@ abbrev pub status_of : Ending → Status
 status_of ending.Done = Done
 status_of ending.Budget = Budget
 status_of ending.Restarted = Restarted
+
+-- the status of a world that was not read
+abbrev pub unread_status : WorldFault → Status
+unread_status (Bad number why) = BadWorld number why
+unread_status (fault.Memory e) = Memory
 
 -- PlantAgrees: the plant stands as the state that a run left, by its counts, tapes and displays
 pub record PlantAgrees (plant : PlantState) (w : Unix) : Type 0 where

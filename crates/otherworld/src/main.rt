@@ -14,13 +14,14 @@ pub use laws::one_run;
 use ow_base::{StdSink, StdSource};
 use ow_plant::Plant;
 pub use rows::{
-    exit_seven_runs, hi_has_one_answer, hi_runs, refusals_are_spelled, rows_are_no_worlds,
+    exit_seven_runs, hi_has_one_answer, hi_runs, refusals_are_spelled, rows_are_refused,
     rows_are_worlds,
 };
 use std::env::args;
 use std::io;
 use std::process::ExitCode;
-pub use top::{Status, Why, otherworld};
+pub use top::{Status, otherworld};
+pub use world_file::Why;
 
 #[cfg(test)]
 mod tests;

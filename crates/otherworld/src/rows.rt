@@ -12,7 +12,8 @@ ghost use Rattle.ow_base.specs.declared.worlds.Ending.TheVariants as ending;
 ghost use Rattle.ow_plant.specs.State.{PlantState};
 ghost use Rattle.otherworld.specs.declared.top.Status.{Status};
 ghost use Rattle.otherworld.specs.declared.top.Status.TheVariants as status;
-ghost use Rattle.otherworld.specs.declared.top.Why.TheVariants.{NotBuilt, TooLarge};
+ghost use Rattle.world_file.specs.declared.why.Why.TheVariants.{NotBuilt, TooLarge, Number, End};
+ghost use Rattle.world_file.specs.WorldRefusals.{IsRefused};
 ghost use Rattle.otherworld.specs.Top.{Answers, Intends, bad_world_text, read_fault_text, memory_text, usage_text};
 ghost use Rattle.otherworld.specs.Rows.{exit_seven, exit_seven_text, exit_seven_report, hi, hi_text, hi_report, few_frames_text, no_end_text, after};
 
@@ -22,12 +23,12 @@ pub const fn rows_are_worlds()
     ensures hi { IsWorld hi_text hi }
 {}
 
-/// Texts that spell no world: none at all, one with five frames, where 16 are the fewest, and one
-/// without its last line.
-pub const fn rows_are_no_worlds()
-    ensures empty { (world : World) → IsWorld [] world → ⊥ }
-    ensures few_frames { (world : World) → IsWorld few_frames_text world → ⊥ }
-    ensures no_end { (world : World) → IsWorld no_end_text world → ⊥ }
+/// Texts that are refused: none at all, hi with five frames, where 16 are the fewest, and exit_seven without
+/// its last line.
+pub const fn rows_are_refused()
+    ensures empty { IsRefused [] 1 End }
+    ensures few_frames { IsRefused few_frames_text 2 Number }
+    ensures no_end { IsRefused no_end_text 9 End }
 {}
 
 /// A run of exit_seven is two instructions and a trap, and the closing trap.
@@ -65,7 +66,10 @@ pub const fn hi_has_one_answer()
 
 /// The texts of the refusals.
 pub const fn refusals_are_spelled()
-    ensures not_built { bad_world_text 0 NotBuilt ≡ codes "bad world line 0: not built\n" }
+    ensures empty { bad_world_text 1 End ≡ codes "bad world line 1: end\n" }
+    ensures few_frames { bad_world_text 2 Number ≡ codes "bad world line 2: number\n" }
+    ensures no_end { bad_world_text 9 End ≡ codes "bad world line 9: end\n" }
+    ensures not_built { bad_world_text 10 NotBuilt ≡ codes "bad world line 10: not built\n" }
     ensures too_large { bad_world_text 0 TooLarge ≡ codes "bad world line 0: too large\n" }
     ensures read_fault { read_fault_text ≡ codes "read fault\n" }
     ensures memory { memory_text ≡ codes "out of memory\n" }

@@ -4,12 +4,15 @@ ghost use Rattle.ow_base.specs.World.{IsWorld};
 ghost use Rattle.world_file.specs.WorldRefusals.{IsBuilt};
 ghost use Rattle.ow_base.specs.declared.worlds.Ending.{Ending};
 ghost use Rattle.ow_plant.specs.State.{IsReady};
-ghost use Rattle.otherworld.specs.Top.{is_run as is_run_alone, refusal_text, bad_world_text, status_of as status_at, Intends, IsSaid, IsRead, IsReported, Answers};
+ghost use Rattle.otherworld.specs.State.{IsLoadOf};
+ghost use Rattle.otherworld.specs.Top.{unread_status, is_run as is_run_alone, refusal_text, bad_world_text, status_of as status_at, Intends, IsSaid, IsRead, IsReported, Answers};
 
 use crate::boot::boot;
 use crate::ow_report::write_report;
 use crate::schedule_runner::run;
-use ow_base::{Ending, Failed, ReadAllFault, Sink, Source, World, put_all, put_number, read_all};
+use ow_base::{
+    Ending, Failed, Program, ReadAllFault, Sink, Source, Start, World, put_all, put_number, read_all,
+};
 use ow_plant::Plant;
 use std::alloc::{AllocError, Global};
 use world_file::{Why, WorldFault, read_world};
@@ -125,6 +128,16 @@ fn refuse<K: Sink>(sink: &mut K, status: Status) -> Status
     }
 }
 
+/// The status of a world that was not read.
+fn unread(fault: WorldFault) -> Status
+    ensures { result ≡ unread_status fault }
+{
+    match fault {
+        WorldFault::Bad { line, why } => Status::BadWorld { line, why },
+        WorldFault::Memory(_) => Status::Memory,
+    }
+}
+
 /// Reads a world and arms the plant for it. A refusal leaves the plant as it was.
 fn load_world<S: Source>(alloc: Global, source: &mut S, plant: &mut Plant) -> Result<World, Status>
     requires { plant.old.armed ≡ false }
@@ -147,13 +160,25 @@ fn load_world<S: Source>(alloc: Global, source: &mut S, plant: &mut Plant) -> Re
     };
     let world = match read_world(alloc, bytes.as_slice()) {
         Ok(world) => world,
-        Err(WorldFault::Bad { line, why }) => return Err(Status::BadWorld { line, why }),
-        Err(WorldFault::Memory(_)) => return Err(Status::Memory),
+        Err(fault) => return Err(unread(fault)),
     };
     match plant.arm(alloc, world.load.shape, &[], &[], &[]) {
         Ok(()) => Ok(world),
         Err(AllocError) => Err(Status::Memory),
     }
+}
+
+/// The one start of a world, and the program that it names.
+fn one_start(world: &World) -> (&Program, &Start)
+    requires value { (input : List ℕ) × IsWorld input world.now }
+    requires built { IsBuilt world.now }
+    ensures { IsLoadOf world.now.load result.0.now result.1.now }
+{
+    let [start] = world.load.starts.items() else {
+        unreachable!()
+    };
+    let program = &world.load.programs.items()[start.program as usize];
+    (program, start)
 }
 
 /// Runs a world on the plant that is armed for it, and writes the report.
@@ -165,12 +190,7 @@ fn run_world<K: Sink>(world: &World, plant: &mut Plant, sink: &mut K) -> Status
         × IsSaid text (status_at ending) (Rose (K.faults sink.old) (K.faults sink.new)) (K.written sink.old) (K.written sink.new) result }
     ensures never_falls { K.faults sink.old ≤ K.faults sink.new }
 {
-    let [start] = world.load.starts.items() else {
-        unreachable!()
-    };
-    let Some(program) = world.load.programs.items().get(start.program as usize) else {
-        unreachable!()
-    };
+    let (program, start) = one_start(world);
     let mut kernel = boot(plant, program, start);
     let ending = run(plant, &mut kernel, world.load.shape.budget);
     match write_report(sink, plant, &kernel, ending) {

@@ -4,6 +4,18 @@ use Rattle.std.specs.Fmt.{digits}
 use Rattle.otherworld.specs.Top.{bad_world_text, read_fault_text, memory_text, usage_text}
 use Rattle.otherworld.proofs.rows.refusals_are_spelled.Goals as goal
 
+pub returns-clause-empty : goal.returns-clause-empty
+unfolding bad_world_text digits
+returns-clause-empty c = refl
+
+pub returns-clause-few_frames : goal.returns-clause-few_frames
+unfolding bad_world_text digits
+returns-clause-few_frames c = refl
+
+pub returns-clause-no_end : goal.returns-clause-no_end
+unfolding bad_world_text digits
+returns-clause-no_end c = refl
+
 pub returns-clause-not_built : goal.returns-clause-not_built
 unfolding bad_world_text digits
 returns-clause-not_built c = refl

@@ -1,8 +1,12 @@
-use Rattle.std.proofs.Common.{refl, sym, ap, Err, subst, List, ℕ, arith}
-use Rattle.ow_base.specs.World.{IsWorld}
-use Rattle.otherworld.proofs.Tops.{no_world}
+use Rattle.std.proofs.Common.{refl, ap, Err, subst, List, ℕ, arith}
+use Rattle.world_file.specs.WorldRefusals.{IsRefusedFault}
+use Rattle.otherworld.proofs.Tops.{too_long, unread_intends}
 use Rattle.otherworld.proofs.top.load_world.Goals as goal
 
-pub returns-in-Err-NotBuilt-clause-refused : goal.returns-in-Err-NotBuilt-clause-refused
-returns-in-Err-NotBuilt-clause-refused g c =
-    (refl, refl, no_world _ _ c.in-Ok.bytes.items c.in-Ok.ensures.all (omega (arith, c.in-Ok.ensures.small, c.in-Ok.bytes.ok.0)) (λ world value. c.in-Err-NotBuilt.ensures.refused (ap Err c.in-Err-NotBuilt.field-0-is) world (subst (λ (b : List ℕ). IsWorld b world) (sym c.as_slice.ensures.value) value)), refl, refl)
+pub returns-in-Err-TooLarge-clause-refused : goal.returns-in-Err-TooLarge-clause-refused
+returns-in-Err-TooLarge-clause-refused g c = (refl, too_long _ _ (c.in-Err-TooLarge.ensures.too_large (ap Err c.in-Err-TooLarge.field-0-is)), refl, refl)
+
+pub returns-in-Err-clause-refused : goal.returns-in-Err-clause-refused
+returns-in-Err-clause-refused g c =
+    let refused = subst (λ (b : List ℕ). IsRefusedFault b c.in-Err.fault) c.as_slice.ensures.value c.in-Err.ensures.refused in
+    rw c.unread.ensures (unread_intends _ _ c.in-Ok.bytes.items _ c.args.plant.now c.in-Err.fault c.in-Ok.ensures.all (omega (arith, c.in-Ok.ensures.small, c.in-Ok.bytes.ok.0)) refused)
