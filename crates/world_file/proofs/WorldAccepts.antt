@@ -1,7 +1,6 @@
 -- Each world of the forms that can be read is read from its text.
-use Rattle.std.proofs.Common.{◌≡◌, ℕ, zero, suc, ◌^◌, ◌+◌, ◌<◌, ◌≤◌, Bool, true, false, List, [], ◌∷◌, ◌++◌, length, map, get_or, find, Option, Some, None, Result, Ok, Err, codes, decimal, bytes_eq, option_to_list, arith, ap, ◌∙◌, sym, refl, subst, ◌==◌, if◌then◌else◌, append_assoc, append-nil, length-append}
-use Rattle.std.specs.Char.{digit_value}
-use Rattle.std.specs.List.{AllByRecursion, AllPairs, slice_index_or, slice_get, flat_map, concat, list_any, position_or_len, sum_by}
+use Rattle.std.proofs.Common.{◌≡◌, ℕ, zero, suc, ◌+◌, ◌<◌, ◌≤◌, true, List, [], ◌∷◌, ◌++◌, length, map, get_or, find, Option, Some, None, Ok, codes, decimal, bytes_eq, option_to_list, arith, ap, ◌∙◌, sym, refl, subst, ◌==◌, if◌then◌else◌, append_assoc, append-nil}
+use Rattle.std.specs.List.{AllByRecursion, slice_get, flat_map, list_any, position_or_len}
 use Rattle.std.proofs.lemmas.List.Sums.{position_or_len_is, sum_by-cons}
 use Rattle.std.proofs.lemmas.List.Folds.{find_at, list_any_at}
 use Rattle.std.proofs.lemmas.List.Elements.{recursion_from_All}
@@ -17,18 +16,17 @@ use Rattle.ow_base.specs.declared.worlds.PanicLine.{PanicLine}
 use Rattle.ow_base.specs.declared.worlds.Program.{Program}
 use Rattle.ow_base.specs.declared.worlds.Start.{Start as Started}
 use Rattle.world_file.specs.declared.key.Key.{Key}
-use Rattle.world_file.specs.declared.key.Key.TheVariants.{Budget, Start, End}
-use Rattle.world_file.specs.WorldLines.{Line, words, pieces, key, key_of, number_of}
+use Rattle.world_file.specs.declared.key.Key.TheVariants.{Budget, Start}
+use Rattle.world_file.specs.WorldLines.{Line, words, pieces, key, key_of}
 use Rattle.world_file.specs.WorldFacts.{Facts, has_name}
-use Rattle.world_file.specs.WorldReasons.{start_place, counted_place}
 use Rattle.world_file.specs.WorldRefusals.{IsBuilt}
 use Rattle.world_file.specs.WorldReading.{with_line, world_of, nothing_said, read_lines, read_text}
-use Rattle.world_file.proofs.WorldPieces.{free, free-append}
-use Rattle.world_file.proofs.WorldFields.{number_of_accepts, free_decimal, free_name, name_accepts, bytes_eq_self, le_is_true, lt_is_true, lt_is_false}
+use Rattle.world_file.proofs.WorldPieces.{free-append}
+use Rattle.world_file.proofs.WorldFields.{number_of_accepts, free_decimal, free_name, name_accepts, bytes_eq_self, le_is_true, lt_is_false}
 use Rattle.world_file.proofs.WorldSpelled.{three_words, some_number, some_text}
 use Rattle.world_file.proofs.WorldPassed.{IsPassed, Reads, reads_line, reads_end}
 use Rattle.world_file.proofs.WorldHead.{at_head, head_read}
-use Rattle.world_file.proofs.WorldBlocksRead.{at_program, Opens, EndsBlock}
+use Rattle.world_file.proofs.WorldBlocksRead.{at_program, EndsBlock}
 use Rattle.world_file.proofs.WorldBlocks.{NamesApart, not_same, block_read, blocks_read}
 
 -- the program at a place is the first of its name

@@ -1,16 +1,16 @@
 -- Program blocks, line by line, from the lines that were read.
-use Rattle.std.proofs.Common.{◌≡◌, ℕ, ◌^◌, ◌+◌, ◌<◌, ◌≤◌, Bool, true, false, not, ◌&&◌, ◌||◌, ◌==◌, nat_le, nat_lt, List, [], ◌∷◌, ◌++◌, length, map, get_or, Option, Some, None, codes, decimal, bytes_eq, option_to_list, arith, ap, ◌∙◌, sym, refl, subst, append_assoc, append-nil, length-append, if◌then◌else◌}
-use Rattle.std.specs.List.{AllByRecursion, AllPairs, flat_map, concat, list_all, list_any}
+use Rattle.std.proofs.Common.{◌≡◌, ℕ, ◌^◌, ◌+◌, ◌<◌, ◌≤◌, Bool, true, false, not, nat_le, nat_lt, List, [], ◌∷◌, ◌++◌, length, map, Option, Some, codes, bytes_eq, option_to_list, arith, ap, ◌∙◌, sym, refl, subst, append_assoc, append-nil, length-append, if◌then◌else◌}
+use Rattle.std.specs.List.{flat_map, concat, list_all, list_any}
 use Rattle.std.proofs.lemmas.Grind.{flat_map-append}
 use Rattle.std.proofs.lemmas.List.Folds.{concat-append, list_any_at}
 use Rattle.std.proofs.lemmas.List.Elements.{All-push, All-from_recursion}
 use Rattle.std.proofs.lemmas.List.Quantifiers.{all_pairs_push}
 use Rattle.ow_base.specs.Lines.{line, spaced, hex8}
-use Rattle.ow_base.specs.World.{AreTexts, IsName, IsLineful, AreWordLines, IsProgram, word_line, head_lines}
+use Rattle.ow_base.specs.World.{AreTexts, IsLineful, AreWordLines, IsProgram, word_line, head_lines}
 use Rattle.ow_base.specs.declared.machine.Shape.{Shape}
 use Rattle.ow_base.specs.declared.worlds.Program.{Program}
 use Rattle.world_file.specs.declared.key.Key.{Key}
-use Rattle.world_file.specs.declared.key.Key.TheVariants.{Program as ProgramKey, Budget, Code, Data}
+use Rattle.world_file.specs.declared.key.Key.TheVariants.{Program as ProgramKey, Code, Data}
 use Rattle.world_file.specs.WorldLines.{Line, words, word_at, fields, key, is_name, is_word}
 use Rattle.world_file.specs.WorldFacts.{Facts, has_name}
 use Rattle.world_file.specs.WorldReasons.{place_of, counted_place, is_taken, has_fields, has_too_many_words, has_no_name, has_no_word, comes_twice, exceeds}

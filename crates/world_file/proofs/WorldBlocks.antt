@@ -1,21 +1,20 @@
 -- Program blocks, whole, are read one behind the other.
-use Rattle.std.proofs.Common.{◌≡◌, ℕ, zero, suc, ◌^◌, ◌+◌, ◌<◌, ◌≤◌, Bool, true, false, List, [], ◌∷◌, ◌++◌, length, Option, Some, None, codes, bytes_eq, option_to_list, arith, ap, ◌∙◌, sym, refl, subst, append_assoc, append-nil, length-append}
-use Rattle.std.specs.List.{AllByRecursion, AllPairs, slice_index_or, slice_get, flat_map, concat, list_any}
+use Rattle.std.proofs.Common.{◌≡◌, ℕ, suc, ◌<◌, ◌≤◌, Bool, true, false, List, [], ◌∷◌, ◌++◌, length, Option, Some, codes, bytes_eq, option_to_list, arith, ap, ◌∙◌, sym, refl, subst, append_assoc, append-nil, length-append}
+use Rattle.std.specs.List.{AllPairs, slice_index_or, flat_map, concat, list_any}
 use Rattle.std.proofs.lemmas.List.Elements.{recursion_from_All}
 use Rattle.std.proofs.lemmas.Slice.Eq.{bytes_eq-Decides}
 use Rattle.ow_base.specs.Lines.{line, spaced}
-use Rattle.ow_base.specs.World.{AreTexts, IsName, IsLineful, AreWordLines, IsProgram, word_line}
+use Rattle.ow_base.specs.World.{AreTexts, IsName, IsLineful, IsProgram, word_line}
 use Rattle.ow_base.specs.declared.machine.Shape.{Shape}
 use Rattle.ow_base.specs.declared.worlds.World.{World}
 use Rattle.ow_base.specs.declared.worlds.Program.{Program}
 use Rattle.world_file.specs.declared.key.Key.{Key}
-use Rattle.world_file.specs.declared.key.Key.TheVariants.{Program as ProgramKey, Budget, Code, Data}
+use Rattle.world_file.specs.declared.key.Key.TheVariants.{Program as ProgramKey, Code, Data}
 use Rattle.world_file.specs.WorldFacts.{has_name}
-use Rattle.world_file.specs.WorldReading.{with_line}
 use Rattle.world_file.proofs.WorldPieces.{free, free-append}
 use Rattle.world_file.proofs.WorldFields.{free_name}
 use Rattle.world_file.proofs.WorldSpelled.{two_words}
-use Rattle.world_file.proofs.WorldPassed.{IsPassed, Reads, reads_line}
+use Rattle.world_file.proofs.WorldPassed.{Reads, reads_line}
 use Rattle.world_file.proofs.WorldBlocksRead.{at_program, Opens, EndsBlock, block, last_of, program_passed, program_said, code_read, data_read}
 
 code_ends : EndsBlock Code

@@ -1,24 +1,22 @@
 -- Program blocks are read, one behind the other.
-use Rattle.std.proofs.Common.{◌≡◌, ℕ, ◌^◌, ◌+◌, ◌<◌, ◌≤◌, Bool, true, false, ◌&&◌, nat_le, nat_lt, List, [], ◌∷◌, ◌++◌, length, map, Option, Some, None, Result, Ok, Err, codes, decimal, bytes_eq, option_to_list, arith, ap, ◌∙◌, sym, refl, subst, append_assoc, append-nil, length-append}
-use Rattle.std.specs.List.{AllByRecursion, AllPairs, slice_index_or, slice_get, flat_map, concat, list_any}
-use Rattle.std.proofs.lemmas.List.Elements.{All-from_recursion, recursion_from_All}
-use Rattle.std.proofs.lemmas.Slice.Eq.{bytes_eq-Decides}
-use Rattle.ow_base.specs.Lines.{line, spaced, hex8}
-use Rattle.ow_base.specs.World.{AreTexts, IsName, IsLineful, AreWordLines, IsProgram, word_line}
+use Rattle.std.proofs.Common.{◌≡◌, ℕ, ◌^◌, ◌+◌, ◌<◌, ◌≤◌, true, false, List, [], ◌∷◌, ◌++◌, length, map, Option, Some, codes, option_to_list, arith, sym, refl, subst, append_assoc, append-nil, length-append}
+use Rattle.std.specs.List.{AllByRecursion, flat_map, concat, list_any}
+use Rattle.std.proofs.lemmas.List.Elements.{recursion_from_All}
+use Rattle.ow_base.specs.Lines.{hex8}
+use Rattle.ow_base.specs.World.{IsName, IsLineful, word_line}
 use Rattle.ow_base.specs.declared.machine.Shape.{Shape}
 use Rattle.ow_base.specs.declared.worlds.World.{World}
 use Rattle.ow_base.specs.declared.worlds.Program.{Program}
 use Rattle.world_file.specs.declared.key.Key.{Key}
-use Rattle.world_file.specs.declared.key.Key.TheVariants.{Program as ProgramKey, Budget, Code, Data}
-use Rattle.world_file.specs.WorldLines.{Line, words, pieces, key, key_of, word_of, words_of}
+use Rattle.world_file.specs.declared.key.Key.TheVariants.{Program as ProgramKey, Code, Data}
+use Rattle.world_file.specs.WorldLines.{Line, words, key, key_of, words_of}
 use Rattle.world_file.specs.WorldFacts.{Facts, has_name}
 use Rattle.world_file.specs.WorldReasons.{program_place, start_place, code_place, data_place, counted_place}
-use Rattle.world_file.specs.declared.reasons.Place.{Place}
 use Rattle.world_file.specs.declared.reasons.Place.TheVariants.{Free}
 use Rattle.world_file.specs.WorldReading.{with_line}
 use Rattle.world_file.proofs.WorldPieces.{free, free-append}
-use Rattle.world_file.proofs.WorldFields.{name_accepts, free_name, le_is_true, lt_is_true, lt_is_false}
-use Rattle.world_file.proofs.WorldSpelled.{two_words, word_text, word_line_words, free_words, some_text, some_words, are_words, values_of_words, count_of_words}
+use Rattle.world_file.proofs.WorldFields.{name_accepts, le_is_true, lt_is_true, lt_is_false}
+use Rattle.world_file.proofs.WorldSpelled.{word_text, word_line_words, free_words, some_text, some_words, are_words, values_of_words, count_of_words}
 use Rattle.world_file.proofs.WorldPassed.{IsPassed, Reads, reads_line}
 
 -- what is said among the program blocks

@@ -1,5 +1,5 @@
 -- Numbers in decimal, words in hexadecimal and names, read and spelled.
-use Rattle.std.proofs.Common.{◌≡◌, ℕ, ◌+◌, ◌/◌, ◌%◌, ◌^◌, ◌<◌, ◌≤◌, Bool, true, false, ◌&&◌, nat_lt, nat_le, ◌==◌, List, [], ◌∷◌, ◌++◌, length, Option, Some, None, bytes_eq, decimal, arith, ap, ◌∙◌, sym, refl, if◌then◌else◌}
+use Rattle.std.proofs.Common.{◌≡◌, ℕ, ◌+◌, ◌/◌, ◌%◌, ◌^◌, ◌<◌, ◌≤◌, Bool, true, false, ◌&&◌, nat_lt, nat_le, ◌==◌, List, [], ◌∷◌, length, Some, bytes_eq, decimal, arith, ap, ◌∙◌, refl, if◌then◌else◌}
 use Rattle.std.specs.Char.{digit_value}
 use Rattle.std.specs.Str.Parse.{digits_value, AllDigits}
 use Rattle.std.specs.List.{AllByRecursion, list_all}
@@ -11,7 +11,7 @@ use Rattle.std.proofs.lemmas.Fmt.{decimal_is_IsNumeral}
 use Rattle.ow_base.specs.Lines.{hex_digit, hex8}
 use Rattle.ow_base.specs.World.{IsName}
 use Rattle.world_file.specs.WorldLines.{number_read, number_of, word_of, is_visible, is_name}
-use Rattle.world_file.proofs.WorldPieces.{free, free-append, free_above, other}
+use Rattle.world_file.proofs.WorldPieces.{free, free_above, other}
 
 pub both_true : (a b : Bool) → (a && b) ≡ true → (a ≡ true) × (b ≡ true)
 both_true true b h = (refl, h)

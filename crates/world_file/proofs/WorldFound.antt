@@ -1,6 +1,6 @@
 -- What is read has the text, and is of the forms that can be read.
-use Rattle.std.proofs.Common.{◌≡◌, ℕ, ◌+◌, ◌<◌, ◌≤◌, ◌⊎◌, inl, inr, Bool, true, false, ◌&&◌, nat_lt, List, [], ◌∷◌, ◌++◌, length, Option, Some, None, Result, Ok, Err, codes, bytes_eq, option_to_list, arith, ap, ◌∙◌, sym, refl, subst, append_assoc, append-nil, if◌then◌else◌}
-use Rattle.std.specs.List.{AllPairs, slice_get}
+use Rattle.std.proofs.Common.{◌≡◌, ℕ, ◌+◌, ◌<◌, ◌≤◌, ◌⊎◌, inl, inr, Bool, true, false, nat_lt, List, [], ◌∷◌, ◌++◌, length, Option, Some, None, Result, Ok, Err, codes, bytes_eq, arith, ap, ◌∙◌, sym, refl, subst, append_assoc, append-nil, if◌then◌else◌}
+use Rattle.std.specs.List.{AllPairs}
 use Rattle.std.proofs.lemmas.List.Elements.{All-from_recursion}
 use Rattle.std.proofs.lemmas.Option.{slice_get_within}
 use Rattle.ow_base.specs.Lines.{line}
@@ -24,7 +24,6 @@ use Rattle.world_file.specs.WorldReading.{Refusal, with_line, world_of, nothing_
 use Rattle.world_file.proofs.WorldPieces.{joined, joined-pieces, joined_line}
 use Rattle.world_file.proofs.WorldFields.{same_bytes, lt_false}
 use Rattle.world_file.proofs.WorldPassed.{IsPassed, passed}
-use Rattle.world_file.proofs.WorldAccepts.{at_start}
 use Rattle.world_file.proofs.WorldSaid.{IsStarted, SoFar, may_stand}
 use Rattle.world_file.proofs.WorldSaid.SoFar.{Nothing, First, ToFrames, ToSectors, ToQuantum, ToBudget, ToProgram, ToCode, ToData, ToStart}
 use Rattle.world_file.proofs.WorldStarted.{step}

@@ -1,13 +1,12 @@
 -- The five lines at the head of a world are read.
-use Rattle.std.proofs.Common.{◌≡◌, ℕ, ◌^◌, ◌+◌, ◌<◌, ◌≤◌, Bool, true, false, ◌&&◌, nat_le, nat_lt, List, [], ◌∷◌, ◌++◌, length, map, Option, Some, None, Result, Ok, Err, codes, decimal, bytes_eq, arith, ap, ◌∙◌, sym, refl, subst, append_assoc}
-use Rattle.std.specs.Char.{digit_value}
+use Rattle.std.proofs.Common.{◌≡◌, ℕ, ◌^◌, ◌<◌, ◌≤◌, true, false, List, [], ◌∷◌, ◌++◌, Some, None, codes, decimal, bytes_eq, arith, sym, refl, subst, append_assoc}
 use Rattle.ow_base.specs.Lines.{line, spaced, number_line}
 use Rattle.ow_base.specs.World.{IsShape, head_lines}
 use Rattle.ow_base.specs.declared.machine.Shape.{Shape}
 use Rattle.ow_base.specs.declared.worlds.World.{World}
 use Rattle.world_file.specs.declared.key.Key.{Key}
 use Rattle.world_file.specs.declared.key.Key.TheVariants.{World as WorldKey, Frames, Sectors, Quantum, Budget}
-use Rattle.world_file.specs.WorldLines.{Line, words, pieces, key, key_of, number_of}
+use Rattle.world_file.specs.WorldLines.{Line, words, pieces, key, key_of}
 use Rattle.world_file.specs.WorldFacts.{Facts, no_shape}
 use Rattle.world_file.specs.WorldReading.{with_line, nothing_said}
 use Rattle.world_file.proofs.WorldPieces.{free, free-append}

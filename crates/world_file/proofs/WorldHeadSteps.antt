@@ -1,9 +1,8 @@
 -- The head of a world, line by line, from the lines that were read.
-use Rattle.std.proofs.Common.{◌≡◌, ℕ, ◌<◌, ◌≤◌, Bool, true, false, not, ◌&&◌, List, [], ◌∷◌, ◌++◌, length, Option, Some, None, codes, decimal, bytes_eq, arith, ap, ◌∙◌, sym, refl, subst, append_assoc, append-nil}
-use Rattle.ow_base.specs.Lines.{line, spaced, number_line}
+use Rattle.std.proofs.Common.{◌≡◌, ℕ, List, [], ◌++◌, codes, decimal, bytes_eq, arith, ap, ◌∙◌, sym, refl, subst, append_assoc, append-nil}
+use Rattle.ow_base.specs.Lines.{line, number_line}
 use Rattle.ow_base.specs.World.{AreTexts, head_lines}
 use Rattle.ow_base.specs.declared.machine.Shape.{Shape}
-use Rattle.ow_base.specs.declared.worlds.Program.{Program}
 use Rattle.world_file.specs.declared.key.Key.{Key}
 use Rattle.world_file.specs.declared.key.Key.TheVariants.{World as WorldKey, Frames, Sectors, Quantum, Budget}
 use Rattle.world_file.specs.WorldLines.{Line, key}
@@ -17,8 +16,8 @@ use Rattle.world_file.proofs.WorldPassed.{IsPassed}
 use Rattle.world_file.proofs.WorldHead.{at_head, shape_with, first_said, frames_said, sectors_said, quantum_said, budget_said}
 use Rattle.world_file.proofs.WorldBlocks.{NamesApart}
 use Rattle.world_file.proofs.WorldKeys.{not_false, first_word}
-use Rattle.world_file.proofs.WorldSaid.{IsIn, AreBlocks, SoFar, may_stand, limit_found}
-use Rattle.world_file.proofs.WorldSaid.SoFar.{Nothing, First, ToFrames, ToSectors, ToQuantum, ToBudget}
+use Rattle.world_file.proofs.WorldSaid.{IsIn, SoFar, may_stand, limit_found}
+use Rattle.world_file.proofs.WorldSaid.SoFar.{First, ToFrames, ToSectors, ToQuantum, ToBudget}
 
 -- which key may follow
 after_world : (k : Key) (shape : Shape) → place_of k (at_head WorldKey shape) ≡ Free → k ≡ Frames

@@ -1,6 +1,6 @@
 -- What a line is from what its key says, and what its fields are.
-use Rattle.std.proofs.Common.{◌≡◌, ℕ, zero, suc, ◌^◌, ◌+◌, ◌<◌, ◌≤◌, Bool, true, false, not, ◌&&◌, ◌||◌, ◌==◌, nat_le, nat_lt, List, [], ◌∷◌, ◌++◌, length, map, get_or, drop, Option, Some, None, codes, decimal, bytes_eq, arith, ap, ◌∙◌, sym, refl, subst, if◌then◌else◌}
-use Rattle.std.specs.List.{AllByRecursion, list_all, list_any}
+use Rattle.std.proofs.Common.{◌≡◌, ℕ, ◌^◌, ◌<◌, ◌≤◌, Bool, true, false, not, ◌||◌, ◌==◌, nat_le, List, [], ◌∷◌, length, map, get_or, drop, Option, Some, None, codes, decimal, bytes_eq, arith, ap, ◌∙◌, sym, refl, subst, if◌then◌else◌}
+use Rattle.std.specs.List.{AllByRecursion, list_all}
 use Rattle.std.proofs.lemmas.Bool.{eqb-true}
 use Rattle.ow_base.specs.Lines.{hex8}
 use Rattle.world_file.specs.declared.key.Key.{Key}

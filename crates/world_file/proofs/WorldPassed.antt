@@ -1,16 +1,13 @@
 -- Lines against which there is no reason, and what reading does at them.
-use Rattle.std.proofs.Common.{◌≡◌, ℕ, ◌+◌, Bool, true, false, not, ◌&&◌, ◌||◌, List, [], ◌∷◌, ◌++◌, length, find, Option, Some, None, Result, Ok, Err, codes, bytes_eq, arith, ap, ◌∙◌, sym, refl, subst, if◌then◌else◌}
-use Rattle.std.proofs.lemmas.Option.{cond_some}
+use Rattle.std.proofs.Common.{◌≡◌, ℕ, ◌+◌, Bool, true, false, List, ◌∷◌, ◌++◌, Option, Some, None, Ok, codes, bytes_eq, ap, ◌∙◌, refl, if◌then◌else◌}
 use Rattle.ow_base.specs.Lines.{line}
 use Rattle.ow_base.specs.declared.worlds.World.{World}
-use Rattle.world_file.specs.declared.why.Why.{Why}
-use Rattle.world_file.specs.declared.why.Why.TheVariants.{FirstLine, NotBuilt, Word, TooMany, Fields, Number, Name, Hex, Twice, NoSuchProgram, Frames, End}
+use Rattle.world_file.specs.declared.why.Why.TheVariants.{FirstLine, NotBuilt, Word, TooMany, Fields, Number, Name, Hex, Twice, NoSuchProgram, Frames}
 use Rattle.world_file.specs.WorldLines.{Line, pieces, key}
 use Rattle.world_file.specs.WorldFacts.{Facts}
-use Rattle.world_file.specs.WorldReasons.{first_reason, holds, reasons, is_no_first_line, is_unbuilt, is_barred, place_of, comes_too_often, lacks_fields, has_no_number, has_no_name, has_no_word, comes_twice, names_no_program, exceeds_frames}
-use Rattle.world_file.specs.WorldReading.{Refusal, with_line, world_of, is_nothing, ended, read_line, read_lines}
+use Rattle.world_file.specs.WorldReasons.{first_reason, is_no_first_line, is_unbuilt, is_barred, place_of, comes_too_often, lacks_fields, has_no_number, has_no_name, has_no_word, comes_twice, names_no_program, exceeds_frames}
+use Rattle.world_file.specs.WorldReading.{with_line, world_of, read_line, read_lines}
 use Rattle.world_file.proofs.WorldPieces.{free, has_piece, pieces_line}
-use Rattle.world_file.proofs.WorldFields.{same_bytes, bytes_eq_self}
 
 -- no reason holds for a line
 pub record IsPassed (f : Facts) (line : Line) : Type 0 where

@@ -1,5 +1,5 @@
 -- A text is refused exactly where reading it ends with a refusal.
-use Rattle.std.proofs.Common.{◌≡◌, ℕ, suc, ◌+◌, ◌<◌, ◌≤◌, Bool, true, false, nat_lt, List, [], ◌∷◌, ◌++◌, length, reverse, Option, Some, None, Ok, Err, Result, codes, bytes_eq, arith, ap, ◌∙◌, sym, refl, subst, append_assoc, if◌then◌else◌}
+use Rattle.std.proofs.Common.{◌≡◌, ℕ, ◌+◌, ◌<◌, ◌≤◌, Bool, true, false, nat_lt, List, [], ◌∷◌, ◌++◌, length, reverse, Option, Some, None, Ok, Err, Result, codes, bytes_eq, arith, ap, ◌∙◌, sym, refl, subst, append_assoc, if◌then◌else◌}
 use Rattle.std.proofs.lemmas.Grind.{common_steps}
 use Rattle.std.proofs.lemmas.List.{reverse-append}
 use Rattle.std.proofs.lemmas.Slice.Eq.{bytes_eq-Decides}
@@ -9,7 +9,7 @@ use Rattle.world_file.specs.declared.why.Why.TheVariants.{End, TooLarge}
 use Rattle.world_file.specs.WorldLines.{Line, pieces}
 use Rattle.world_file.specs.WorldFacts.{Facts, facts, last_key, shape_of, finished, opened, starts}
 use Rattle.world_file.specs.WorldReasons.{first_reason, reason_at}
-use Rattle.world_file.specs.WorldRefusals.{AreRead, IsReadTo, IsRefusedLine, StopsEarly, GoesOn, IsTooLong, IsRefused}
+use Rattle.world_file.specs.WorldRefusals.{AreRead, IsReadTo, IsRefused}
 use Rattle.world_file.specs.WorldRefusals.IsRefused.{Refused, Early, Behind, Long}
 use Rattle.world_file.specs.WorldReading.{Refusal, nothing_said, with_line, world_of, is_nothing, ended, read_line, read_lines, read_text}
 use Rattle.world_file.proofs.WorldPieces.{has_piece}

@@ -1,27 +1,25 @@
 -- What the lines that were read say, and the five lines at the head.
-use Rattle.std.proofs.Common.{◌≡◌, ℕ, ◌^◌, ◌+◌, ◌<◌, ◌≤◌, Bool, true, false, not, ◌&&◌, ◌||◌, ◌==◌, List, [], ◌∷◌, ◌++◌, length, Option, Some, None, codes, decimal, bytes_eq, option_to_list, arith, ap, ◌∙◌, sym, refl, subst, append_assoc}
-use Rattle.std.specs.List.{AllPairs, slice_get, list_any}
+use Rattle.std.proofs.Common.{◌≡◌, ℕ, ◌^◌, ◌<◌, ◌≤◌, true, false, not, ◌==◌, List, [], ◌∷◌, ◌++◌, length, Some, codes, decimal, ap, ◌∙◌, sym, refl, subst}
+use Rattle.std.specs.List.{slice_get, list_any}
 use Rattle.ow_base.specs.Lines.{line, spaced, number_line}
 use Rattle.ow_base.specs.World.{AreTexts, IsShape, IsName, AreWordLines, IsProgram, head_lines, start_line, start_pages}
 use Rattle.ow_base.specs.declared.machine.Shape.{Shape}
 use Rattle.ow_base.specs.declared.worlds.Program.{Program}
 use Rattle.ow_base.specs.declared.worlds.Start.{Start as Started}
 use Rattle.world_file.specs.declared.key.Key.{Key}
-use Rattle.world_file.specs.declared.key.Key.TheVariants.{World as WorldKey, Frames, Sectors, Quantum, Budget, Program as ProgramKey, Code, Data, Start}
-use Rattle.world_file.specs.WorldLines.{Line, words, word_at, fields, key, key_of, is_number, is_empty}
+use Rattle.world_file.specs.declared.key.Key.TheVariants.{World as WorldKey, Frames, Sectors, Quantum, Budget, Program as ProgramKey, Code, Data}
+use Rattle.world_file.specs.WorldLines.{Line, words, word_at, fields, key, is_number, is_empty}
 use Rattle.world_file.specs.WorldFacts.{Facts, no_shape, has_name}
 use Rattle.world_file.specs.WorldReasons.{place_of, is_barred, is_taken, has_fields, has_no_number, has_too_many_words}
 use Rattle.world_file.specs.declared.reasons.Place.{Place}
 use Rattle.world_file.specs.declared.reasons.Place.TheVariants.{Free, Taken, Barred}
-use Rattle.world_file.specs.WorldReading.{with_line, nothing_said}
-use Rattle.world_file.proofs.WorldFields.{same_bytes}
-use Rattle.world_file.proofs.WorldSpelled.{spelled_two}
+use Rattle.world_file.specs.WorldReading.{nothing_said}
 use Rattle.world_file.proofs.WorldPassed.{IsPassed}
-use Rattle.world_file.proofs.WorldHead.{at_head, shape_with, first_said, frames_said, sectors_said, quantum_said, budget_said}
-use Rattle.world_file.proofs.WorldBlocksRead.{at_program, block}
+use Rattle.world_file.proofs.WorldHead.{at_head, shape_with}
+use Rattle.world_file.proofs.WorldBlocksRead.{at_program}
 use Rattle.world_file.proofs.WorldBlocks.{NamesApart}
 use Rattle.world_file.proofs.WorldAccepts.{at_start}
-use Rattle.world_file.proofs.WorldKeys.{neither, not_false, first_word, words_one, number_found}
+use Rattle.world_file.proofs.WorldKeys.{neither, not_false, words_one, number_found}
 
 abbrev pub IsIn : (low high n : ℕ) → Type 0
 IsIn low high n = (low ≤ n) × (n ≤ high)

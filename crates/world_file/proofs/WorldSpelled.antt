@@ -1,11 +1,11 @@
 -- The words of lines that are spelled, and how a line of words is spelled.
-use Rattle.std.proofs.Common.{◌≡◌, ℕ, ◌^◌, ◌<◌, ◌≤◌, Bool, true, false, ◌||◌, List, [], ◌∷◌, ◌++◌, length, map, Option, Some, None, arith, ap, ◌∙◌, sym, refl, append_assoc, append-nil, decimal}
+use Rattle.std.proofs.Common.{◌≡◌, ℕ, ◌^◌, ◌<◌, ◌≤◌, true, false, List, [], ◌∷◌, ◌++◌, length, map, arith, ap, ◌∙◌, sym, refl, append_assoc, append-nil, decimal}
 use Rattle.std.specs.List.{AllByRecursion, flat_map, list_all, list_any, filter_map}
 use Rattle.std.proofs.lemmas.Fmt.{decimal_is_IsNumeral}
-use Rattle.ow_base.specs.Lines.{line, spaced, hex8}
+use Rattle.ow_base.specs.Lines.{spaced, hex8}
 use Rattle.world_file.specs.WorldLines.{Line, words, pieces, word_of, is_word, is_empty}
 use Rattle.world_file.proofs.WorldPieces.{free, free-append, pieces_front, pieces_only, joined, joined-pieces}
-use Rattle.world_file.proofs.WorldFields.{both_true, word_of_reads, word_of_accepts, free_hex8}
+use Rattle.world_file.proofs.WorldFields.{word_of_accepts, free_hex8}
 
 pub one_word : (a : List ℕ) → free 32 a ≡ true → words a ≡ a ∷ []
 unfolding words

@@ -1,36 +1,29 @@
 -- The start line and each step of reading, from the lines that were read.
-use Rattle.std.proofs.Common.{◌≡◌, ℕ, ◌^◌, ◌+◌, ◌<◌, ◌≤◌, Bool, true, false, not, ◌&&◌, ◌||◌, ◌==◌, nat_le, nat_lt, List, [], ◌∷◌, ◌++◌, length, find, Option, Some, None, Result, Ok, Err, codes, decimal, bytes_eq, option_to_list, arith, ap, ◌∙◌, sym, refl, subst, append_assoc, append-nil, if◌then◌else◌}
-use Rattle.std.specs.List.{AllByRecursion, AllPairs, slice_get, list_any, position_or_len, sum_by}
+use Rattle.std.proofs.Common.{◌≡◌, ℕ, ◌+◌, Bool, true, false, ◌||◌, List, [], ◌∷◌, ◌++◌, find, Option, Some, None, codes, bytes_eq, option_to_list, arith, ap, ◌∙◌, sym, refl, subst, if◌then◌else◌}
+use Rattle.std.specs.List.{slice_get, list_any, position_or_len}
 use Rattle.std.proofs.lemmas.List.Sums.{sum_by-cons}
 use Rattle.std.proofs.lemmas.List.Folds.{find_at}
-use Rattle.std.proofs.lemmas.List.Elements.{All-from_recursion}
-use Rattle.std.proofs.lemmas.Option.{slice_get_within}
 use Rattle.ow_base.specs.Lines.{line, spaced}
-use Rattle.ow_base.specs.World.{AreTexts, IsWorld, IsStart, IsTyped, AreKeys, head_lines, start_line, pages_of_found, start_pages}
+use Rattle.ow_base.specs.World.{pages_of_found, start_pages}
 use Rattle.ow_base.specs.declared.machine.Shape.{Shape}
-use Rattle.ow_base.specs.declared.worlds.World.{World}
-use Rattle.ow_base.specs.declared.worlds.FileText.{FileText}
-use Rattle.ow_base.specs.declared.worlds.PanicLine.{PanicLine}
 use Rattle.ow_base.specs.declared.worlds.Program.{Program}
 use Rattle.ow_base.specs.declared.worlds.Start.{Start as Started}
 use Rattle.world_file.specs.declared.key.Key.{Key}
-use Rattle.world_file.specs.declared.key.Key.TheVariants.{World as WorldKey, Frames, Sectors, Quantum, Budget, Program as ProgramKey, Code, Data, Start, End}
-use Rattle.world_file.specs.declared.why.Why.{Why}
-use Rattle.world_file.specs.WorldLines.{Line, words, word_at, fields, pieces, key, key_of, number_of, is_number}
-use Rattle.world_file.specs.WorldFacts.{Facts, has_name, no_shape, start_of}
-use Rattle.world_file.specs.WorldReasons.{place_of, has_no_number, names_no_program, exceeds_frames, first_reason, is_unbuilt}
+use Rattle.world_file.specs.declared.key.Key.TheVariants.{Budget, Program as ProgramKey, Code, Data, Start, End}
+use Rattle.world_file.specs.WorldLines.{Line, word_at, fields, key, number_of, is_number}
+use Rattle.world_file.specs.WorldFacts.{Facts, has_name}
+use Rattle.world_file.specs.WorldReasons.{place_of, has_no_number, names_no_program, exceeds_frames, is_unbuilt}
 use Rattle.world_file.specs.declared.reasons.Place.TheVariants.{Free}
-use Rattle.world_file.specs.WorldRefusals.{IsBuilt}
-use Rattle.world_file.specs.WorldReading.{Refusal, with_line, world_of, nothing_said, is_nothing, ended, read_line, read_lines, read_text}
-use Rattle.world_file.proofs.WorldPieces.{joined, joined-pieces, joined_line}
-use Rattle.world_file.proofs.WorldFields.{both_true, same_bytes, bytes_eq_self, number_of_accepts, lt_false}
+use Rattle.world_file.specs.WorldReading.{with_line}
+use Rattle.world_file.proofs.WorldPieces.{joined}
+use Rattle.world_file.proofs.WorldFields.{same_bytes, number_of_accepts, lt_false}
 use Rattle.world_file.proofs.WorldSpelled.{spelled_words, spelled_three}
-use Rattle.world_file.proofs.WorldPassed.{IsPassed, passed}
-use Rattle.world_file.proofs.WorldHead.{at_head, shape_with}
+use Rattle.world_file.proofs.WorldPassed.{IsPassed}
+use Rattle.world_file.proofs.WorldHead.{at_head}
 use Rattle.world_file.proofs.WorldBlocksRead.{at_program}
 use Rattle.world_file.proofs.WorldAccepts.{at_start}
 use Rattle.world_file.proofs.WorldKeys.{not_false, first_word, words_split, words_two, no_field, number_found}
-use Rattle.world_file.proofs.WorldSaid.{AreBlocks, IsOpen, IsStarted, SoFar, may_stand, field_count}
+use Rattle.world_file.proofs.WorldSaid.{AreBlocks, IsOpen, SoFar, may_stand, field_count}
 use Rattle.world_file.proofs.WorldSaid.SoFar.{Nothing, First, ToFrames, ToSectors, ToQuantum, ToBudget, ToProgram, ToCode, ToData, ToStart}
 use Rattle.world_file.proofs.WorldHeadSteps.{first_step, frames_step, sectors_step, quantum_step, budget_step}
 use Rattle.world_file.proofs.WorldBlockSteps.{closed, program_step, code_step, data_step}

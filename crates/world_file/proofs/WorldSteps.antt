@@ -1,18 +1,17 @@
 -- Reading, a line at a time, where the text behind the line is not cut yet.
-use Rattle.std.proofs.Common.{◌≡◌, ℕ, ◌+◌, ◌<◌, ◌≤◌, Bool, true, false, nat_lt, List, [], ◌∷◌, ◌++◌, length, find, Option, Some, None, Result, Ok, Err, codes, bytes_eq, arith, ap, ◌∙◌, sym, refl, if◌then◌else◌, ◌==◌, ◌||◌}
+use Rattle.std.proofs.Common.{◌≡◌, ℕ, ◌+◌, ◌<◌, Bool, true, false, nat_lt, List, [], ◌∷◌, ◌++◌, length, find, Option, Some, None, Ok, Err, codes, bytes_eq, arith, ap, ◌∙◌, refl, if◌then◌else◌, ◌==◌, ◌||◌}
 use Rattle.std.specs.Option.{option_or}
 use Rattle.std.proofs.lemmas.Grind.{common_steps}
 use Rattle.std.proofs.lemmas.List.Folds.{find-append}
-use Rattle.ow_base.specs.declared.worlds.World.{World}
 use Rattle.world_file.specs.declared.key.Key.{Key}
 use Rattle.world_file.specs.declared.key.Key.TheVariants.{World as WorldKey, Frames, Sectors, Quantum, Budget, Program, Code, Data, Start, End as EndKey, Unbuilt, Unknown}
 use Rattle.world_file.specs.declared.why.Why.{Why}
 use Rattle.world_file.specs.declared.why.Why.TheVariants.{FirstLine, NotBuilt, Word, TooMany, Fields, Number, Name, Hex, Escape, Twice, NoSuchProgram, Order, Frames as TooManyFrames, Sectors as TooManySectors, End}
 use Rattle.world_file.specs.WorldLines.{Line, with_byte, pieces, key, is_empty}
 use Rattle.world_file.specs.WorldFacts.{Facts, programs_of}
-use Rattle.world_file.specs.WorldReasons.{first_reason, holds, reasons, is_no_first_line, is_unbuilt, is_barred, is_taken, place_of, program_place, counted_place, comes_too_often, has_too_many_words}
-use Rattle.world_file.specs.declared.reasons.Place.TheVariants.{Free, Taken, Barred}
-use Rattle.world_file.specs.WorldReading.{Refusal, with_line, world_of, is_nothing, ended, read_line, read_lines}
+use Rattle.world_file.specs.WorldReasons.{first_reason, holds, is_no_first_line, is_unbuilt, is_barred, is_taken, place_of, program_place, counted_place, comes_too_often, has_too_many_words}
+use Rattle.world_file.specs.declared.reasons.Place.TheVariants.{Free, Taken}
+use Rattle.world_file.specs.WorldReading.{with_line, world_of, is_nothing, ended, read_line, read_lines}
 use Rattle.world_file.proofs.WorldPieces.{HasPiece, has_piece}
 
 -- a line, with the text behind it

@@ -1,5 +1,5 @@
 -- What the lines before a place say. They stand nearest first.
-use Rattle.std.specs.Prelude.{ℕ, ◌+◌, Bool, List, [], ◌∷◌, ◌++◌, option_to_list, bytes_eq, Option, Some, None, option_map}
+use Rattle.std.specs.Prelude.{ℕ, Bool, List, [], ◌∷◌, ◌++◌, option_to_list, bytes_eq, Option, Some, None, option_map}
 use Rattle.std.specs.List.{position_or_len}
 use Rattle.ow_base.specs.declared.machine.Shape.{Shape}
 use Rattle.ow_base.specs.declared.worlds.Program.{Program}

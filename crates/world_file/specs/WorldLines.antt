@@ -1,6 +1,6 @@
 -- What a line of a world text is by itself: its words, what its first word makes it, and its fields.
-use Rattle.std.specs.Prelude.{ℕ, zero, suc, ◌^◌, ◌-◌, Bool, true, false, not, nat_lt, nat_le, ◌&&◌, ◌||◌, ◌==◌, if◌then◌else◌, List, [], ◌∷◌, length, get_or, drop, filter_map, codes, decimal, bytes_eq, Option, Some, None, unwrap_or}
-use Rattle.std.specs.List.{list_all, list_any}
+use Rattle.std.specs.Prelude.{ℕ, ◌^◌, Bool, true, false, nat_lt, nat_le, ◌&&◌, ◌||◌, ◌==◌, if◌then◌else◌, List, [], ◌∷◌, length, get_or, drop, filter_map, codes, decimal, bytes_eq, Option, Some, None, unwrap_or}
+use Rattle.std.specs.List.{list_all}
 use Rattle.std.specs.Str.Parse.{digits_value}
 use Rattle.ow_base.specs.Lines.{hex8}
 use Rattle.world_file.specs.declared.key.Key.{Key}

@@ -1,5 +1,5 @@
 -- How a world is read, line by line.
-use Rattle.std.specs.Prelude.{◌≡◌, ℕ, suc, ◌+◌, nat_lt, Bool, true, false, if◌then◌else◌, List, [], ◌∷◌, ◌++◌, length, codes, bytes_eq, Option, Some, None, option_to_list, Result, Ok, Err}
+use Rattle.std.specs.Prelude.{◌≡◌, ℕ, ◌+◌, nat_lt, Bool, true, false, if◌then◌else◌, List, [], ◌∷◌, length, codes, bytes_eq, Option, Some, None, Result, Ok, Err}
 use Rattle.ow_base.specs.declared.worlds.World.{World}
 use Rattle.world_file.specs.declared.reader.WorldFault.{WorldFault}
 use Rattle.world_file.specs.declared.reader.WorldFault.TheVariants.{Bad, Memory}

@@ -4,7 +4,7 @@ use Rattle.std.specs.List.{list_all, list_any}
 use Rattle.ow_base.specs.World.{start_pages, pages_of_found}
 use Rattle.ow_base.specs.declared.worlds.Program.{Program}
 use Rattle.world_file.specs.declared.key.Key.{Key}
-use Rattle.world_file.specs.declared.key.Key.TheVariants.{World, Frames, Sectors, Quantum, Budget, Program as ProgramKey, Code, Data, Start, End, Unbuilt, Unknown}
+use Rattle.world_file.specs.declared.key.Key.TheVariants.{World, Frames, Sectors, Quantum, Budget, Program as ProgramKey, Code, Data, Start, End, Unbuilt}
 use Rattle.world_file.specs.declared.reasons.Place.{Place}
 use Rattle.world_file.specs.declared.reasons.Place.TheVariants.{Free, Taken, Barred}
 use Rattle.world_file.specs.declared.why.Why.{Why}

@@ -1,6 +1,6 @@
 -- Which world texts are refused, at which line and why. A text's lines are its pieces between line feeds, and the
 -- piece behind the last line feed is no line.
-use Rattle.std.specs.Prelude.{◌≡◌, ℕ, ◌+◌, ◌<◌, ◌≤◌, List, [], ◌∷◌, ◌++◌, length, reverse, codes, Option, Some, None}
+use Rattle.std.specs.Prelude.{◌≡◌, ℕ, ◌+◌, ◌<◌, ◌≤◌, List, [], ◌∷◌, ◌++◌, length, reverse, codes, Some, None}
 use Rattle.ow_base.specs.declared.worlds.World.{World}
 use Rattle.world_file.specs.declared.why.Why.{Why}
 use Rattle.world_file.specs.declared.why.Why.TheVariants.{End, TooLarge}

@@ -1,4 +1,3 @@
-use Rattle.std.proofs.Common.{arith}
 use Rattle.world_file.proofs.WorldWords.{words_end}
 use Rattle.world_file.proofs.line.words_in.Goals as goal
 

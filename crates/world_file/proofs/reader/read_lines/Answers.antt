@@ -1,7 +1,7 @@
 use Rattle.std.proofs.Common.{◌≡◌, ◌∙◌, ◌+◌, true, false, Some, None, bytes_eq, codes, ap, sym, arith}
 use Rattle.world_file.specs.WorldLines.{pieces}
 use Rattle.world_file.specs.WorldReasons.{first_reason}
-use Rattle.world_file.specs.WorldReading.{Gives, with_line, read_lines}
+use Rattle.world_file.specs.WorldReading.{with_line, read_lines}
 use Rattle.world_file.proofs.WorldSteps.{read_rest, read_refused, read_end, read_more, room_for_program}
 use Rattle.world_file.proofs.reader.read_lines.Goals as goal
 

@@ -1,4 +1,3 @@
-use Rattle.std.proofs.Common.{◌∙◌, ap}
 use Rattle.world_file.specs.WorldLines.{words, is_empty}
 use Rattle.world_file.proofs.WorldWords.{any_of_map}
 use Rattle.world_file.proofs.line.Line.has_empty_word.Goals as goal

@@ -1,4 +1,3 @@
-use Rattle.std.proofs.Common.{◌∙◌}
 use Rattle.std.specs.Prelude.{option_to_list}
 use Rattle.world_file.proofs.WorldPrograms.{pages_in_front, pages_behind}
 use Rattle.world_file.proofs.so_far.SoFar.named_pages.Goals as goal
