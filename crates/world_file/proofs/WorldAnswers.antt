@@ -1,11 +1,12 @@
 -- What the reader answers is what the text is.
-use Rattle.std.proofs.Common.{ℕ, List, Result, Ok, Err, IfOk, IfErr}
+use Rattle.std.proofs.Common.{◌≡◌, ℕ, ◌⊎◌, inl, inr, List, Result, Ok, Err, IfOk, IfErr, refl}
 use Rattle.ow_base.specs.World.{IsWorld}
 use Rattle.ow_base.specs.declared.worlds.World.{World}
 use Rattle.world_file.specs.declared.reader.WorldFault.{WorldFault}
 use Rattle.world_file.specs.declared.reader.WorldFault.TheVariants.{Bad, Memory}
-use Rattle.world_file.specs.WorldReading.{Gives, read_text}
-use Rattle.world_file.specs.WorldRefusals.{IsBuilt, IsRefusedFault}
+use Rattle.world_file.specs.declared.why.Why.{Why}
+use Rattle.world_file.specs.WorldReading.{Gives, Refusal, read_text}
+use Rattle.world_file.specs.WorldRefusals.{IsBuilt, IsRefused, IsRefusedFault}
 use Rattle.world_file.proofs.WorldLaws.{reads, refuses}
 
 pub found : (text : List ℕ) (result : Result World WorldFault) → Gives result (read_text text) → IfOk result (λ world. IsWorld text world)
@@ -20,3 +21,12 @@ pub refused_as : (text : List ℕ) (result : Result World WorldFault) → Gives 
 refused_as text (Ok world) h = tt
 refused_as text (Err (Bad line why)) h = refuses text (record { line = line; why = why }) h
 refused_as text (Err (Memory e)) h = tt
+
+-- a text is read, or it is refused
+answered : (text : List ℕ) (read : Result World Refusal) → read_text text ≡ read
+    → ((world : World) × IsWorld text world × IsBuilt world) ⊎ ((line : ℕ) × (why : Why) × IsRefused text line why)
+answered text (Ok world) h = let is = reads text world h in inl (world, is.0, is.1)
+answered text (Err r) h = inr (r.line, r.why, refuses text r h)
+
+pub each_text : (text : List ℕ) → ((world : World) × IsWorld text world × IsBuilt world) ⊎ ((line : ℕ) × (why : Why) × IsRefused text line why)
+each_text text = answered text (read_text text) refl

@@ -4,15 +4,25 @@ ghost use Rattle.world_file.specs.WorldLines.{key_of, is_unbuilt_word};
 /// What a line of a world text is, by its first word.
 #[derive(Clone, Copy, Debug, PartialEq, Eq)]
 pub enum Key {
+    /// `world 1`, the first line.
     World,
+    /// The frames of the machine.
     Frames,
+    /// The sectors of the disk.
     Sectors,
+    /// The instructions of a slice.
     Quantum,
+    /// The steps that a run may take.
     Budget,
+    /// The name of a program, whose block begins.
     Program,
+    /// Words of the block's code.
     Code,
+    /// Words of the block's data.
     Data,
+    /// A program that is started, and its terminal.
     Start,
+    /// The last line.
     End,
     /// A form that cannot be read yet.
     Unbuilt,

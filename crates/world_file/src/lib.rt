@@ -8,7 +8,9 @@ mod reasons;
 mod so_far;
 mod why;
 
-pub use reader::{WorldFault, one_refusal, one_world, read_world, worlds_are_read};
+pub use reader::{
+    WorldFault, each_text_is_answered, one_refusal, one_world, read_world, worlds_are_read,
+};
 pub use why::Why;
 
 #[cfg(test)]

@@ -1,4 +1,4 @@
-ghost use Rattle.std.specs.Prelude.{◌≡◌, ℕ, ◌+◌, ◌≤◌, if◌then◌else◌, List, length, IfOk, IfErr, Ok, Err};
+ghost use Rattle.std.specs.Prelude.{◌≡◌, ℕ, ◌+◌, ◌≤◌, ◌⊎◌, if◌then◌else◌, List, length, IfOk, IfErr, Ok, Err};
 ghost use Rattle.ow_base.specs.World.{IsWorld};
 ghost use Rattle.ow_base.specs.declared.worlds.World.{World};
 ghost use Rattle.world_file.specs.declared.why.Why.{Why};
@@ -107,6 +107,11 @@ pub fn one_refusal()
 /// No text of a world of the forms that can be read is refused.
 pub fn worlds_are_read()
     ensures { (text : List ℕ) (world : World) (line : ℕ) (why : Why) → IsWorld text world → IsBuilt world → IsRefused text line why → ⊥ }
+{}
+
+/// A text is of a world of the forms that can be read, or it is refused.
+pub fn each_text_is_answered()
+    ensures { (text : List ℕ) → ((world : World) × IsWorld text world × IsBuilt world) ⊎ ((line : ℕ) × (why : Why) × IsRefused text line why) }
 {}
 
 /// The world that a text spells.

@@ -7,6 +7,15 @@ use crate::line::{Line, is_name};
 use crate::so_far::SoFar;
 use crate::why::Why;
 
+// The most words of a line, the most words of code or of data of a block, and the most programs or starts.
+const LINE_WORDS: usize = 16;
+
+const BLOCK_WORDS: usize = 65536;
+
+const MOST_PROGRAMS: usize = 16;
+
+const MOST_STARTS: usize = 16;
+
 /// Whether a line of a kind may stand behind the lines so far.
 #[derive(Clone, Copy, Debug, PartialEq, Eq)]
 pub enum Place {
@@ -54,10 +63,10 @@ fn place_of(key: Key, so_far: &SoFar) -> Place
     let last = so_far.last();
     match (key, last) {
         (Key::Program, Some(Key::Budget | Key::Code | Key::Data)) => {
-            counted_place(16, so_far.program_count())
+            counted_place(MOST_PROGRAMS, so_far.program_count())
         }
         (Key::Start, Some(Key::Code | Key::Data | Key::Start)) => {
-            counted_place(16, so_far.start_count())
+            counted_place(MOST_STARTS, so_far.start_count())
         }
         (Key::Code, Some(Key::Program | Key::Code))
         | (Key::Data, Some(Key::Code | Key::Data))
@@ -88,7 +97,7 @@ fn is_unbuilt(key: Key, so_far: &SoFar) -> bool
 fn exceeds(before: usize, here: usize) -> bool
     ensures { result ≡ exceeds before here }
 {
-    here > 16 || before > 65536 - here
+    here > LINE_WORDS || before > BLOCK_WORDS - here
 }
 
 fn has_too_many_words(key: Key, so_far: &SoFar, line: &Line) -> bool

@@ -274,3 +274,28 @@ fn ends_where_it_is_cut(rt: HostRuntime) -> Result<(), Fail> {
     }
     Ok(())
 }
+
+// A byte that fits nowhere, in place of any of a line's, refuses that line.
+#[test]
+fn refuses_other_bytes(rt: HostRuntime) -> Result<(), Fail> {
+    let alloc = rt.alloc();
+    let whole = front(alloc, 10)?;
+    for (i, own) in whole.bytes().enumerate() {
+        let before = whole.as_str().get(..i).unwrap_or("");
+        let number = before.split('\n').count();
+        for other in [0, 127, 255] {
+            let mut bytes = Vec::from_slice(alloc, whole.as_bytes())?;
+            if let Some(byte) = bytes.get_mut(i) {
+                *byte = other;
+            }
+            match read_world(alloc, bytes.as_slice()) {
+                Ok(_) => return Err(Fail::from("a byte fits nowhere")),
+                Err(WorldFault::Bad { line, why: _ }) => {
+                    assert!(rt; line as usize == number || own == b'\n', "{line} for {i}");
+                }
+                Err(WorldFault::Memory(e)) => return Err(Fail::from(e)),
+            }
+        }
+    }
+    Ok(())
+}
