@@ -1,9 +1,7 @@
 -- What boot stores, word by word.
-use Rattle.std.proofs.Common.{◌≡◌, ◌≢◌, ℕ, ◌+◌, ◌-◌, ◌*◌, ◌/◌, ◌%◌, ◌^◌, ◌<◌, ◌≤◌, Bool, true, false, nat_lt, nat_le, nat_eq, ◌==◌, ◌&&◌, if◌then◌else◌, List, length, slice_index, Option, Some, None, refl, ap, sym, ◌∙◌, arith}
+use Rattle.std.proofs.Common.{◌≡◌, ℕ, ◌+◌, ◌/◌, ◌%◌, ◌<◌, List, slice_index, ◌∙◌, arith}
 use Rattle.std.proofs.lemmas.Bool.Decides.{nat_tests}
-use Rattle.std.proofs.lemmas.Grind.{common_steps}
 use Rattle.ow_base.specs.Sv32.{WordMap}
-use Rattle.ow_base.specs.Unix.{is_within}
 use Rattle.ow_base.specs.declared.machine.Rights.{Rights}
 use Rattle.phys_memory.specs.Memory.{MemoryParts, words_of, with_word, frame_count}
 use Rattle.phys_memory.proofs.Words.{words_of-set}

@@ -1,18 +1,17 @@
 -- What the process sees through its page tables: its turns are turns on its pages, and its bytes are theirs.
-use Rattle.std.proofs.Common.{◌≡◌, ℕ, zero, suc, ◌+◌, ◌/◌, ◌%◌, ◌^◌, ◌<◌, Bool, true, false, MatchBool, nat_lt, List, [], ◌∷◌, get_or, Option, Some, None, is_some, Result, Ok, Err, refl, sym, ap, subst, ◌∙◌, arith}
+use Rattle.std.proofs.Common.{◌≡◌, ℕ, zero, suc, ◌/◌, ◌%◌, ◌^◌, ◌<◌, Bool, true, false, MatchBool, [], ◌∷◌, get_or, Option, Some, None, is_some, Result, Ok, Err, refl, sym, ap, subst, ◌∙◌, arith}
 use Rattle.std.proofs.lemmas.Grind.{common_steps}
 use Rattle.ow_base.specs.Pages.{Pages, page_space, rights_at}
 use Rattle.ow_base.specs.Sv32.{translated, byte_of, word_at}
-use Rattle.ow_base.specs.UserStep.{Stepped, Next, Call, Faulted, user_step}
+use Rattle.ow_base.specs.UserStep.{Stepped, Next, Call, Faulted}
 use Rattle.ow_base.specs.declared.machine.Access.TheVariants.{Load}
 use Rattle.ow_base.specs.declared.machine.Phys.{Phys}
 use Rattle.ow_base.specs.declared.machine.PageCause.{PageCause}
-use Rattle.ow_base.specs.declared.machine.Rights.TheVariants.{Code, Values}
 use Rattle.ow_base.proofs.Simulations.{Follows}
 use Rattle.phys_memory.specs.Memory.{MemoryParts, words_of}
-use Rattle.sv32_tables.specs.Spaces.{Mapping, IsMapped, mapped, pages_in, satp_of}
+use Rattle.sv32_tables.specs.Spaces.{Mapping, mapped, pages_in, satp_of}
 use Rattle.sv32_tables.proofs.Spaces.{IsSpaceOf, pages_by-mapped, translated-mapped}
-use Rattle.ow_plant.specs.State.{PlantState, Seen, seen_space, seen_by, StepsAs, TakesUserTurn, risen}
+use Rattle.ow_plant.specs.State.{PlantState, Seen, seen_space, seen_by, StepsAs, TakesUserTurn}
 use Rattle.ow_plant.specs.declared.UserEnd.{UserEnd}
 use Rattle.ow_plant.specs.declared.UserEnd.TheVariants as end
 use Rattle.ow_plant.proofs.Programs.{words_seen, root_seen, with_seen, IsSeenSized, steps_on_pages}

@@ -1,5 +1,5 @@
 -- The faults of a user step have small causes.
-use Rattle.std.proofs.Common.{◌≡◌, ℕ, ◌+◌, ◌<◌, Bool, true, false, List, Option, Some, None, Result, Ok, Err, arith, if◌then◌else◌}
+use Rattle.std.proofs.Common.{ℕ, ◌<◌, Bool, true, false, List, Option, Some, None, Result, Ok, Err, arith, if◌then◌else◌}
 use Rattle.ow_base.specs.UserStep.{Stepped, Next, Call, Faulted, Act, Sets, Jumps, Branches, Loads, Stores, Nothing, Calls, Breaks, Illegal, is_aligned, size_of, gone_to, after_load, after_store, acted, act_of, after_fetch, user_step}
 use Rattle.ow_base.specs.Pages.{Pages, page_space, fetched_from, loaded_from, stored_in, rights_at}
 use Rattle.ow_base.specs.declared.machine.Width.{Width}

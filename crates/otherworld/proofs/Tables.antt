@@ -1,17 +1,14 @@
 -- The page tables that boot builds map the pages of the program, each to a frame of its own.
-use Rattle.std.proofs.Common.{◌≡◌, ◌≢◌, ℕ, ◌+◌, ◌-◌, ◌*◌, ◌/◌, ◌%◌, ◌^◌, ◌<◌, ◌≤◌, Bool, true, false, nat_lt, ◌==◌, ◌&&◌, if◌then◌else◌, List, length, slice_index, Option, Some, None, is_some, refl, ap, sym, ◌∙◌, inl, inr, arith}
+use Rattle.std.proofs.Common.{◌≡◌, ℕ, ◌+◌, ◌-◌, ◌*◌, ◌<◌, ◌≤◌, true, false, nat_lt, ◌==◌, ◌&&◌, if◌then◌else◌, List, length, slice_index, Option, Some, None, is_some, refl, ap, sym, ◌∙◌, inl, inr, arith}
 use Rattle.std.proofs.lemmas.Bool.{cases_lt}
 use Rattle.std.proofs.lemmas.Bool.Decides.{nat_tests}
 use Rattle.std.proofs.lemmas.List.{get_or_past}
-use Rattle.std.proofs.lemmas.Grind.{common_steps}
 use Rattle.ow_base.specs.Sv32.{WordMap}
 use Rattle.ow_base.specs.Unix.{is_within, page_count}
-use Rattle.ow_base.specs.declared.machine.Rights.{Rights}
-use Rattle.ow_base.specs.declared.machine.Rights.TheVariants.{Code, Values}
 use Rattle.ow_base.specs.declared.worlds.Program.{Program}
-use Rattle.phys_memory.specs.Memory.{MemoryParts, IsSized, words_of, zeroed, frame_count}
+use Rattle.phys_memory.specs.Memory.{MemoryParts, IsSized, words_of, zeroed}
 use Rattle.phys_memory.proofs.Words.{words_of-zeroed, words_of-some, frame_count-sized}
-use Rattle.sv32_tables.specs.Entries.{leaf_word, pointer_word}
+use Rattle.sv32_tables.specs.Entries.{pointer_word}
 use Rattle.sv32_tables.specs.Spaces.{Mapping, IsMapped, entry_of}
 use Rattle.ow_base.specs.Unix.{started_pages}
 use Rattle.sv32_tables.proofs.Spaces.{pages_by-mapped}
@@ -127,7 +124,7 @@ module _ (u : ℕ) (program : Program) (memory : MemoryParts) (few : page_count 
       let dp : ℕ = page_count program.values in
       let old : WordMap = with_program (words_of (zeroed u)) program in
       let of : (page : ℕ) (m : Mapping) → started_map cp dp page ≡ Some m → (129 ≤ m.frame) × (m.frame < 129 + cp + dp + 4) × (page ≡ page_in cp dp m.frame) =
-          λ page m e. frame_of cp dp page m few few_values e in
+      λ page m e. frame_of cp dp page m few few_values e in
       record {
         low = 18;
         high = 19;

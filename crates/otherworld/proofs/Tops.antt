@@ -1,15 +1,14 @@
 -- How the parts of a call of the program make its answer.
 use Rattle.std.proofs.Common.{◌≡◌, ℕ, zero, suc, ◌+◌, ◌<◌, ◌≤◌, true, List, [], ◌∷◌, length, drop, get_or, slice_get, Option, Some, None, refl, ap, sym, subst, ◌∙◌, arith}
 use Rattle.std.proofs.lemmas.Option.{none-some}
-use Rattle.std.proofs.lemmas.Grind.{common_steps}
-use Rattle.ow_base.specs.Outside.{OnTold, TakesAll, TakesOver}
-use Rattle.ow_base.specs.World.{IsWorld, IsProgram, IsStart, AreTexts, start_pages}
+use Rattle.ow_base.specs.Outside.{TakesAll, TakesOver}
+use Rattle.ow_base.specs.World.{IsWorld, IsProgram, AreTexts}
 use Rattle.world_file.specs.declared.why.Why.{Why}
 use Rattle.world_file.specs.declared.why.Why.TheVariants.{TooLarge}
 use Rattle.world_file.specs.declared.reader.WorldFault.{WorldFault}
 use Rattle.world_file.specs.declared.reader.WorldFault.TheVariants.{Bad}
 use Rattle.world_file.specs.declared.reader.WorldFault.TheVariants as fault
-use Rattle.world_file.specs.WorldRefusals.{IsRefused, IsRefusedFault, Long, IsBuilt}
+use Rattle.world_file.specs.WorldRefusals.{IsRefused, IsRefusedFault, Long}
 use Rattle.ow_base.specs.Unix.{Unix, start_of}
 use Rattle.ow_base.specs.Run.{Run, RunsFrom}
 use Rattle.ow_base.specs.Report.{report_of}

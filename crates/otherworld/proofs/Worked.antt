@@ -1,6 +1,5 @@
 -- The worked examples, computed.
-use Rattle.std.proofs.Common.{◌≡◌, ℕ, ◌<◌, ◌⊎◌, inl, inr, true, refl, ap, sym, subst, ◌∙◌, arith, List, [], length, Option, Some, None}
-use Rattle.std.proofs.lemmas.Option.{none-some}
+use Rattle.std.proofs.Common.{◌≡◌, ℕ, ◌⊎◌, inl, inr, true, refl, ap, subst, ◌∙◌, List, [], Option, Some, None}
 use Rattle.std.specs.Fmt.{digits}
 use Rattle.ow_base.specs.Lines.{hex8, escaped_byte}
 use Rattle.ow_base.specs.UserStep.{immediate_act, register_act, branch_act, load_act, store_act, system_act, act_of, gone_to, after_load, after_store, acted, after_fetch, user_step}
@@ -15,7 +14,6 @@ use Rattle.ow_base.specs.Report.{head_text, status_words, process_lines, out_lin
 use Rattle.ow_base.specs.Outside.{appended}
 use Rattle.ow_base.specs.World.{IsWorld}
 use Rattle.ow_base.specs.declared.machine.Shape.{Shape}
-use Rattle.ow_base.specs.declared.worlds.World.{World}
 use Rattle.ow_base.specs.declared.worlds.Ending.{Ending}
 use Rattle.ow_base.specs.declared.worlds.Ending.TheVariants.{Done, Budget, Restarted}
 use Rattle.ow_base.specs.declared.worlds.PanicRecord.{PanicRecord}
@@ -24,13 +22,12 @@ use Rattle.world_file.specs.WorldLines.{pieces, words, key_of, number_of, word_o
 use Rattle.world_file.specs.WorldReasons.{first_reason}
 use Rattle.world_file.specs.WorldReading.{with_line, read_lines, read_text}
 use Rattle.world_file.specs.WorldRefusals.{IsRefused, IsBuilt}
-use Rattle.world_file.specs.declared.why.Why.{Why}
 use Rattle.world_file.specs.declared.why.Why.TheVariants.{Number, End}
 use Rattle.world_file.proofs.WorldLaws.{reads, refuses, built_is_not_refused}
 use Rattle.world_file.proofs.WorldUnique.{one_world}
 use Rattle.otherworld.specs.declared.top.Status.{Status}
 use Rattle.otherworld.specs.declared.top.Status.TheVariants as status
-use Rattle.otherworld.specs.Top.{Answers, Intends, IsSaid, IsRun, IsReported, most_bytes, memory_text}
+use Rattle.otherworld.specs.Top.{Answers, Intends, IsSaid, IsRun, IsReported, memory_text}
 use Rattle.otherworld.specs.Rows.{worked_world, exit_seven, exit_seven_text, exit_seven_report, hi, hi_text, hi_report, few_frames_text, no_end_text, turned, after}
 
 -- `unfolding rows` lets `refl` compute the reading of a text, a run and a report

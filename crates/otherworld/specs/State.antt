@@ -1,14 +1,13 @@
 -- Which state of the Unix a plant and the kernel's own words stand for.
-use Rattle.std.specs.Prelude.{◌≡◌, ℕ, ◌+◌, ◌-◌, ◌*◌, ◌/◌, ◌^◌, ◌<◌, ◌≤◌, Bool, true, false, MatchBool, nat_lt, ◌==◌, if◌then◌else◌, List, [], ◌∷◌, ◌++◌, length, replicate, slice_get, Option, Some, None}
+use Rattle.std.specs.Prelude.{◌≡◌, ℕ, ◌+◌, ◌*◌, ◌<◌, ◌≤◌, true, false, MatchBool, nat_lt, ◌==◌, if◌then◌else◌, List, [], ◌∷◌, ◌++◌, length, replicate, slice_get, Option, Some, None}
 use Rattle.ow_base.specs.Screen.{screen_of, drawn_all}
-use Rattle.ow_base.specs.Words.{byte_of_words, wrapped, minus}
+use Rattle.ow_base.specs.Words.{wrapped, minus}
 use Rattle.ow_base.specs.Pages.{Pages, page_space}
 use Rattle.ow_base.specs.Sv32.{pages_by}
 use Rattle.ow_base.specs.UserStep.{Stepped, Next, Call, Faulted, register, with_register, user_step}
-use Rattle.ow_base.specs.Unix.{Unix, Process, CallState, Out, In, Description, OnTty, Terminal, silent_terminal, AtKernel, AtUser, Position, started_descriptors, is_within}
+use Rattle.ow_base.specs.Unix.{Unix, Process, CallState, Out, In, Description, OnTty, Terminal, silent_terminal, AtKernel, AtUser, Position, started_descriptors}
 use Rattle.ow_base.specs.World.{started_page_count}
 use Rattle.ow_base.specs.declared.machine.Bank.{Bank}
-use Rattle.ow_base.specs.declared.machine.Rights.{Rights}
 use Rattle.ow_base.specs.declared.worlds.Load.{Load}
 use Rattle.ow_base.specs.declared.worlds.Program.{Program}
 use Rattle.ow_base.specs.declared.worlds.Start.{Start as Started}

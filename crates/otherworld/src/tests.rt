@@ -300,28 +300,17 @@ fn a_budget_may_end_inside_a_write(rt: HostRuntime) -> Result<(), Fail> {
 fn refusals_have_their_texts(rt: HostRuntime) -> Result<(), Fail> {
     let alloc = rt.alloc();
     let usage = "usage: otherworld run | run --evidence | asm | gen N\n";
-    let not_built = Status::BadWorld {
-        line: 0,
-        why: Why::NotBuilt,
-    };
-    let too_large = Status::BadWorld {
-        line: 0,
-        why: Why::TooLarge,
-    };
     let hi = world_text(alloc, "quantum 100\nbudget 1000", HI, "data 000a6948\n")?;
     let rows = [
         ("fly", hi, Status::Usage, usage),
         ("run x", Vec::new(alloc), Status::Usage, usage),
         (
             "run",
-            Vec::new(alloc),
-            not_built,
-            "bad world line 0: not built\n",
-        ),
-        (
-            "run",
             vec![in alloc; b'a'; 1_048_577]?,
-            too_large,
+            Status::BadWorld {
+                line: 0,
+                why: Why::TooLarge,
+            },
             "bad world line 0: too large\n",
         ),
     ];
@@ -345,6 +334,104 @@ fn refusals_have_their_texts(rt: HostRuntime) -> Result<(), Fail> {
     );
     assert_eq!(rt; none, Status::Usage);
     assert_eq!(rt; sink.written(), usage.as_bytes());
+    Ok(())
+}
+
+/// A text that is no world, the line and the reason, and what is written.
+const REFUSED: [(&str, u32, Why, &str); 7] = [
+    ("", 1, Why::End, "bad world line 1: end\n"),
+    (
+        "world 1\nframes 32\nsectors 4\nquantum 100\nbudget 1000\nprogram a\ncode 00700513 00100893 00000073\nstart a 0\n",
+        9,
+        Why::End,
+        "bad world line 9: end\n",
+    ),
+    (
+        "world 1\nframes 5\n",
+        2,
+        Why::Number,
+        "bad world line 2: number\n",
+    ),
+    (
+        "world 1\nframes 32\nsectors 4\nquantum 100\nbudget 1000\nprogram a\ncode 00000073\nstart b 0\nend\n",
+        8,
+        Why::NoSuchProgram,
+        "bad world line 8: no such program\n",
+    ),
+    (
+        "world 1\nframes 32\nsectors 4\nquantum 100\nbudget 1000\nprogram a\ncode 00000073\nstart a 0\npanic 1 0\nend\n",
+        9,
+        Why::NotBuilt,
+        "bad world line 9: not built\n",
+    ),
+    (
+        "world 1\nframes 32\nsectors 4\nquantum 100\nbudget 1000\nprogram a\ncode 00000073\nstart a 0\nstart a 1\nend\n",
+        9,
+        Why::NotBuilt,
+        "bad world line 9: not built\n",
+    ),
+    (
+        "world 1\nframes 32\nsectors 4\nquantum 100\nbudget 1000\nprogram a\ncode 00000073\nstart a 0\nend\n\n",
+        10,
+        Why::End,
+        "bad world line 10: end\n",
+    ),
+];
+
+#[test]
+fn worlds_are_refused_by_line_and_reason(rt: HostRuntime) -> Result<(), Fail> {
+    let alloc = rt.alloc();
+    for (text, line, why, wanted) in REFUSED {
+        let (answer, sink) = answer_to(
+            alloc,
+            "run",
+            &mut MemSource::new(Vec::from_slice(alloc, text.as_bytes())?, Vec::new(alloc)),
+            Vec::new(alloc),
+        )?;
+        assert_eq!(rt; answer, Status::BadWorld { line, why }, "{text}");
+        assert_eq!(rt; sink.written(), wanted.as_bytes());
+    }
+    Ok(())
+}
+
+/// The limits of a world, its second program, and the lines of the report that tell how it ended.
+const SECOND: [(&str, &str, &str); 3] = [
+    (
+        "frames 32",
+        "code 00300513 00100893 00000073\n",
+        "steps 3\ntraps 2\nexit 1 code 3\n",
+    ),
+    // the data is one page behind the code: lui a0, 0x11; lw a0, 0(a0); addi a7, x0, 1; ecall
+    (
+        "frames 16",
+        "code 00011537 00052503 00100893 00000073\ndata 00000009\n",
+        "steps 4\ntraps 2\nexit 1 code 9\n",
+    ),
+    // the stack has four pages: sw a0, 12(sp); lui a1, 0x7fffc; lw a2, 0(a1); lw a2, -4(a1)
+    (
+        "frames 16",
+        "code 00a12623 7fffc5b7 0005a603 ffc5a603\n",
+        "steps 4\ntraps 2\nexit 1 fault 13\n",
+    ),
+];
+
+#[test]
+fn the_program_that_is_named_runs(rt: HostRuntime) -> Result<(), Fail> {
+    let alloc = rt.alloc();
+    for (limits, lines, told) in SECOND {
+        let text = format!(in alloc;
+            "world 1\n{limits}\nsectors 4\nquantum 100\nbudget 1000\nprogram a\ncode ffffffff\nprogram b\n{lines}start b 0\nend\n"
+        )?;
+        let wanted = format!(in alloc; "otherworld 1\nending done\n{told}{SILENT}")?;
+        let (answer, sink) = answer_to(
+            alloc,
+            "run",
+            &mut MemSource::new(Vec::from_slice(alloc, text.as_bytes())?, Vec::new(alloc)),
+            Vec::new(alloc),
+        )?;
+        assert_eq!(rt; answer, Status::Done, "{lines}");
+        assert_eq!(rt; sink.written(), wanted.as_bytes(), "{lines}");
+    }
     Ok(())
 }
 

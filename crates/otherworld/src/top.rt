@@ -11,7 +11,8 @@ use crate::boot::boot;
 use crate::ow_report::write_report;
 use crate::schedule_runner::run;
 use ow_base::{
-    Ending, Failed, Program, ReadAllFault, Sink, Source, Start, World, put_all, put_number, read_all,
+    Ending, Failed, Program, ReadAllFault, Sink, Source, Start, World, put_all, put_number,
+    read_all,
 };
 use ow_plant::Plant;
 use std::alloc::{AllocError, Global};

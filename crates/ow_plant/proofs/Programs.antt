@@ -1,8 +1,8 @@
 -- A program whose page tables map distinct frames steps on the plant as on its pages.
-use Rattle.std.proofs.Common.{◌≡◌, ℕ, ◌+◌, ◌*◌, ◌/◌, ◌^◌, ◌<◌, ◌≤◌, ◌==◌, Bool, true, false, nat_lt, List, Option, Some, None, refl, arith, if◌then◌else◌}
+use Rattle.std.proofs.Common.{◌≡◌, ℕ, ◌^◌, ◌<◌, List, Option, Some, refl, arith}
 use Rattle.std.proofs.lemmas.Bool.Decides.{nat_tests}
 use Rattle.ow_base.specs.Pages.{page_space}
-use Rattle.ow_base.specs.Sv32.{WordMap, sv32_space, pages_by}
+use Rattle.ow_base.specs.Sv32.{WordMap, pages_by}
 use Rattle.ow_base.specs.UserStep.{user_step}
 use Rattle.ow_base.proofs.Simulations.{Follows}
 use Rattle.phys_memory.specs.Memory.{MemoryParts, IsSized, frame_count, words_of, with_word}

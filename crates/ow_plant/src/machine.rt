@@ -166,8 +166,7 @@ impl Plant {
     pub fn fence(&mut self)
         requires armed { self.old.armed ≡ true }
         ensures { self.new ≡ self.old }
-    {
-    }
+    {}
 
     /// Loads the bank of a process, whose root table is in a frame below 2^22, and begins a slice in user
     /// mode.

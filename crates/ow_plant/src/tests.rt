@@ -155,9 +155,7 @@ const TABLES: [(Place, u32); 3] = [
 ];
 
 fn store_all(plant: &mut Plant, words: &[(Place, u32)]) -> bool {
-    words
-        .iter()
-        .all(|((frame, word), value)| plant.store(*frame, *word, *value).is_ok())
+    words.iter().all(|((frame, word), value)| plant.store(*frame, *word, *value).is_ok())
 }
 
 #[test]
@@ -223,10 +221,10 @@ const STORED: u32 = 0x0102_0304;
 fn steps_through_tables(rt: HostRuntime) -> Result<(), Fail> {
     let steps = [
         a_step(0x0000_a503, 4096, UserEnd::Next, BEFORE, BEFORE), // lw a0, 0(x1)
-        a_step(0x0000_c503, 4097, UserEnd::Next, 0x82, BEFORE),   // lbu a0, 0(x1)
+        a_step(0x0000_c503, 4097, UserEnd::Next, 0x82, BEFORE), // lbu a0, 0(x1)
         a_step(0x0000_8503, 4098, UserEnd::Next, 0xffff_ff83, BEFORE), // lb a0, 0(x1)
         a_step(0x0000_d503, 4098, UserEnd::Next, 0x8483, BEFORE), // lhu a0, 0(x1)
-        a_step(0x0020_a023, 4096, UserEnd::Next, 0, STORED),      // sw x2, 0(x1)
+        a_step(0x0020_a023, 4096, UserEnd::Next, 0, STORED), // sw x2, 0(x1)
         a_step(0x0020_8023, 4098, UserEnd::Next, 0, 0x8404_8281), // sb x2, 0(x1)
         a_step(0x0020_9023, 4098, UserEnd::Next, 0, 0x0304_8281), // sh x2, 0(x1)
         a_step(0x0020_a023, 0, fault(15, 0), 0, BEFORE),
@@ -235,7 +233,7 @@ fn steps_through_tables(rt: HostRuntime) -> Result<(), Fail> {
         a_step(0x0000_a503, 4098, fault(4, 4098), 0, BEFORE),
         a_step(0x0020_9023, 4097, fault(6, 4097), 0, BEFORE),
         a_step(0x0000_8067, 4096, UserEnd::Next, 0, BEFORE), // jalr x0, 0(x1)
-        a_step(0x0000_0073, 0, UserEnd::Call, 0, BEFORE),    // ecall
+        a_step(0x0000_0073, 0, UserEnd::Call, 0, BEFORE), // ecall
     ];
     for case in &steps {
         let mut plant = Plant::new(rt.alloc());

@@ -3,7 +3,7 @@ ghost use Rattle.std.specs.Prelude.{◌≡◌, ℕ, ◌%◌, ◌+◌, ◌^◌, �
 ghost use Rattle.ow_base.specs.Sv32.{value_of, overwritten, fault_cause};
 ghost use Rattle.ow_base.specs.UserStep.{fault_at, size_of};
 
-use ow_base::{Access, Fault, PageCause, WordSource, Width};
+use ow_base::{Access, Fault, PageCause, Width, WordSource};
 use phys_memory::Memory;
 use rv32_user::Space;
 use std::marker::Model;

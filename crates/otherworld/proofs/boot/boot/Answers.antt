@@ -1,8 +1,7 @@
-use Rattle.std.proofs.Common.{◌≡◌, ℕ, ◌+◌, ◌*◌, ◌≤◌, false, List, length, ap, sym, subst, ◌∙◌, arith}
+use Rattle.std.proofs.Common.{◌≡◌, ℕ, ◌*◌, ap, sym, subst, ◌∙◌, arith}
 use Rattle.std.proofs.lemmas.Grind.{common_steps}
 use Rattle.ow_base.specs.Sv32.{WordMap}
-use Rattle.ow_base.specs.Unix.{page_count, start_of, started_bank, started_pages}
-use Rattle.ow_base.specs.declared.machine.Bank.{Bank}
+use Rattle.ow_base.specs.Unix.{page_count, started_bank, started_pages}
 use Rattle.ow_base.specs.declared.machine.Shape.{Shape}
 use Rattle.ow_base.specs.declared.worlds.Program.{Program}
 use Rattle.phys_memory.specs.Memory.{MemoryParts, IsSized, words_of, zeroed}
@@ -31,7 +30,7 @@ booted c =
     let values : c.pages_for-2.result ≡ page_count p.values = c.pages_for-2.ensures ∙ ap page_count c.items-2.ensures in
     let shape : c.store_program.new.plant.shape ≡ s.shape = ap (λ (t : PlantState). t.shape) c.store_program.ensures.rest in
     let loaded : words_of c.store_program.new.plant.memory ≡ with_program (words_of (zeroed s.shape.user_frames)) p =
-        c.store_program.ensures.words ∙ ap (λ (m : MemoryParts). with_program (words_of m) p) c.requires.ready.zeroed in
+    c.store_program.ensures.words ∙ ap (λ (m : MemoryParts). with_program (words_of m) p) c.requires.ready.zeroed in
     record {
       sized = rw same (subst (λ (h : Shape). IsSized h.user_frames c.build_tables.new.plant.memory) shape c.build_tables.ensures.sized);
       built =
@@ -53,7 +52,7 @@ returns-clause-started c =
     let n = c.fence.new.self in
     let is = booted c in
     let pages : pages_at n.memory ≡ started_pages p =
-        pages_at-built s.shape.user_frames p n.memory (omega (arith, c.requires.short_code)) (omega (arith, c.requires.short_values)) (omega (arith, c.requires.frames)) is.sized is.built c.requires.short_code c.requires.short_values in
+    pages_at-built s.shape.user_frames p n.memory (omega (arith, c.requires.short_code)) (omega (arith, c.requires.short_values)) (omega (arith, c.requires.frames)) is.sized is.built c.requires.short_code c.requires.short_values in
     let bank : c.set.new.self ≡ started_bank.regs = grind (arith, common_steps, c.set.ensures, c.new-regs.ensures) in
     rw bank
     (start_of-booted load p c.args.start.now n (16 * s.shape.budget) built
@@ -70,7 +69,7 @@ returns-clause-sound c =
     let shape : n.shape ≡ s.shape = ap (λ (t : PlantState). t.shape) (kept c) in
     let budget : n.shape.budget ≡ s.shape.budget = ap (λ (h : Shape). h.budget) shape in
     let pages : HasPages s.shape.user_frames n.memory =
-        HasPages-built s.shape.user_frames p n.memory (omega (arith, c.requires.short_code)) (omega (arith, c.requires.short_values)) (omega (arith, c.requires.frames)) is.sized is.built in
+    HasPages-built s.shape.user_frames p n.memory (omega (arith, c.requires.short_code)) (omega (arith, c.requires.short_values)) (omega (arith, c.requires.frames)) is.sized is.built in
     IsSound-booted n c.args.start.now.tty (record { pc = 65536; regs = c.set.new.self }) c.requires.tty (omega (arith, budget, c.requires.budget))
     (ap (λ (t : PlantState). t.armed) (kept c) ∙ c.requires.ready.armed)
     (ap (λ (t : PlantState). t.in_user) (kept c) ∙ c.requires.ready.in_kernel)

@@ -1,12 +1,12 @@
-use Rattle.std.proofs.Common.{◌≡◌, ℕ, ◌+◌, ◌<◌, ap, sym, subst, ◌∙◌, arith}
+use Rattle.std.proofs.Common.{◌≡◌, ℕ, ◌+◌, ap, subst, ◌∙◌, arith}
 use Rattle.ow_base.specs.Sv32.{WordMap}
 use Rattle.ow_base.specs.declared.machine.Shape.{Shape}
-use Rattle.ow_base.specs.declared.machine.Rights.TheVariants.{Code, Values}
-use Rattle.phys_memory.specs.Memory.{MemoryParts, IsSized, words_of, with_word, frame_count}
+use Rattle.ow_base.specs.declared.machine.Rights.TheVariants.{Values}
+use Rattle.phys_memory.specs.Memory.{MemoryParts, IsSized, words_of, with_word}
 use Rattle.phys_memory.proofs.Words.{IsSized-set, frame_count-sized}
 use Rattle.sv32_tables.specs.Entries.{pointer_word}
 use Rattle.ow_plant.specs.State.{PlantState}
-use Rattle.otherworld.specs.Boot.{with_leaves, with_leaves_of, with_one, with_tables}
+use Rattle.otherworld.specs.Boot.{with_leaves, with_leaves_of, with_one}
 use Rattle.otherworld.proofs.Booting.{words_of-one}
 use Rattle.otherworld.proofs.boot.build_tables.Goals as goal
 
@@ -33,14 +33,14 @@ returns-clause-words c =
     let shape : c.map_pages-2.new.plant.shape ≡ s.shape = ap (λ (t : PlantState). t.shape) c.map_pages-2.ensures.rest ∙ ap (λ (t : PlantState). t.shape) c.map_pages.ensures.rest in
     let sized : IsSized s.shape.user_frames m = same_size c.map_pages-2.new.plant.shape s.shape m shape c.map_pages-3.ensures.sized in
     let leaves : words_of m ≡ with_leaves_of (words_of s.memory) cp dp =
-        c.map_pages-3.ensures.words
-        ∙ ap (λ (w : WordMap). with_leaves w 19 1020 4 (129 + cp + dp) Values)
-        (c.map_pages-2.ensures.words ∙ ap (λ (w : WordMap). with_leaves w 18 (16 + cp) dp (129 + cp) Values) c.map_pages.ensures.words) in
+    c.map_pages-3.ensures.words
+    ∙ ap (λ (w : WordMap). with_leaves w 19 1020 4 (129 + cp + dp) Values)
+    (c.map_pages-2.ensures.words ∙ ap (λ (w : WordMap). with_leaves w 18 (16 + cp) dp (129 + cp) Values) c.map_pages.ensures.words) in
     let first : c.set_word.new.plant.memory ≡ with_word m 17 0 (pointer_word 18) =
-        ap (λ (t : PlantState). t.memory) c.set_word.ensures ∙ ap (λ (v : ℕ). with_word m 17 0 v) c.pointer.ensures in
+    ap (λ (t : PlantState). t.memory) c.set_word.ensures ∙ ap (λ (v : ℕ). with_word m 17 0 v) c.pointer.ensures in
     let m1 = with_word m 17 0 (pointer_word 18) in
     let second : c.set_word-2.new.plant.memory ≡ with_word m1 17 511 (pointer_word 19) =
-        ap (λ (t : PlantState). t.memory) c.set_word-2.ensures ∙ ap (λ (n : MemoryParts). with_word n 17 511 c.pointer-2.result) first ∙ ap (λ (v : ℕ). with_word m1 17 511 v) c.pointer-2.ensures in
+    ap (λ (t : PlantState). t.memory) c.set_word-2.ensures ∙ ap (λ (n : MemoryParts). with_word n 17 511 c.pointer-2.result) first ∙ ap (λ (v : ℕ). with_word m1 17 511 v) c.pointer-2.ensures in
     let count = frame_count-sized s.shape.user_frames m sized in
     let count1 = frame_count-sized s.shape.user_frames m1 (IsSized-set s.shape.user_frames m 17 0 (pointer_word 18) sized) in
     ap words_of second
@@ -56,5 +56,5 @@ returns-clause-sized c =
     let sized : IsSized s.shape.user_frames m = same_size c.map_pages-2.new.plant.shape s.shape m shape c.map_pages-3.ensures.sized in
     let first : c.set_word.new.plant.memory ≡ with_word m 17 0 c.pointer.result = ap (λ (t : PlantState). t.memory) c.set_word.ensures in
     let second : c.set_word-2.new.plant.memory ≡ with_word (with_word m 17 0 c.pointer.result) 17 511 c.pointer-2.result =
-        ap (λ (t : PlantState). t.memory) c.set_word-2.ensures ∙ ap (λ (n : MemoryParts). with_word n 17 511 c.pointer-2.result) first in
+    ap (λ (t : PlantState). t.memory) c.set_word-2.ensures ∙ ap (λ (n : MemoryParts). with_word n 17 511 c.pointer-2.result) first in
     rw second (IsSized-set s.shape.user_frames (with_word m 17 0 c.pointer.result) 17 511 c.pointer-2.result (IsSized-set s.shape.user_frames m 17 0 c.pointer.result sized))

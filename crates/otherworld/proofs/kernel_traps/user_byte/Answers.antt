@@ -1,12 +1,6 @@
-use Rattle.std.proofs.Common.{◌≡◌, ◌/◌, ◌%◌, true, false, None, Some, Ok, Err, is_some, true≢false, refl, ap, sym, ◌∙◌, slice_index, arith}
-use Rattle.std.proofs.lemmas.Grind.{common_steps}
-use Rattle.ow_base.specs.Pages.{rights_at}
-use Rattle.ow_base.specs.Sv32.{byte_of, word_at, word_or_zero}
-use Rattle.phys_memory.specs.Memory.{words_of}
-use Rattle.otherworld.specs.State.{pages_at}
+use Rattle.std.proofs.Common.{◌%◌, Ok, Err, is_some, true≢false, refl, ap, sym, ◌∙◌, arith}
 use Rattle.otherworld.proofs.Seeing.{byte_found, byte_of-bytes}
 use Rattle.otherworld.proofs.kernel_traps.user_byte.Goals as goal
-
 
 pub returns-in-Ok-clause-none : goal.returns-in-Ok-clause-none
 returns-in-Ok-clause-none c =

@@ -25,7 +25,7 @@ returns c =
     let starts : c.items.result.now ≡ c.args.world.now.load.starts = c.items.ensures in
     let programs : c.items-2.result.now ≡ c.args.world.now.load.programs = c.items-2.ensures in
     let is : c.index-items-start.result ≡ get_or c.args.world.now.load.programs (get_or c.args.world.now.load.starts 0 no_start).program c.index-items-start.result =
-        c.index-items-start.is
-        ∙ ap (λ (xs : List Program). get_or xs (get_or c.items.result.now 0 no_start).program c.index-items-start.result) programs
-        ∙ ap (λ (xs : List Started). get_or c.args.world.now.load.programs (get_or xs 0 no_start).program c.index-items-start.result) starts in
+    c.index-items-start.is
+    ∙ ap (λ (xs : List Program). get_or xs (get_or c.items.result.now 0 no_start).program c.index-items-start.result) programs
+    ∙ ap (λ (xs : List Started). get_or c.args.world.now.load.programs (get_or xs 0 no_start).program c.index-items-start.result) starts in
     rw starts (subst (λ (p : Program). IsLoadOf c.args.world.now.load p (get_or c.args.world.now.load.starts 0 no_start)) (sym is) load.1)
