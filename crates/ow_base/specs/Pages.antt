@@ -1,6 +1,5 @@
 -- The pages of a process, as bytes at addresses.
-use Rattle.std.specs.Prelude.{ℕ, zero, suc, ◌+◌, ◌-◌, ◌*◌, ◌/◌, ◌%◌, ◌^◌, Bool, true, nat_lt, nat_le, ◌&&◌, ◌==◌, if◌then◌else◌, List, [], ◌∷◌, Result, Ok, Err, Option, Some, None, is_some}
-use Rattle.ow_base.specs.Words.{byte_of_words}
+use Rattle.std.specs.Prelude.{ℕ, zero, suc, ◌+◌, ◌-◌, ◌*◌, ◌/◌, ◌%◌, ◌^◌, Bool, true, nat_lt, nat_le, ◌&&◌, if◌then◌else◌, List, [], ◌∷◌, Result, Ok, Err, Option, Some, None, is_some}
 use Rattle.ow_base.specs.declared.machine.Width.{Width}
 use Rattle.ow_base.specs.declared.machine.Width.TheVariants.{Byte, Half, Word}
 use Rattle.ow_base.specs.declared.machine.Fault.{Fault}
@@ -13,16 +12,6 @@ use Rattle.ow_base.specs.UserStep.{Spaces, size_of, fault_at}
 pub record Pages : Type 0 where
   pub rights : ℕ → Option Rights
   pub bytes : ℕ → ℕ
-
-abbrev pub no_pages : Pages
-no_pages = record { rights = λ _. None; bytes = λ _. 0 }
-
--- the page with this number is there, and holds these 1,024 words
-abbrev pub with_page : Pages → (page : ℕ) → Rights → (words : List ℕ) → Pages
-with_page pages page rights words = record {
-  rights = λ p. if p == page then Some rights else pages.rights p;
-  bytes = λ a. if a / 4096 == page then byte_of_words words (a % 4096) else pages.bytes a;
-}
 
 -- the rights at an address
 abbrev pub rights_at : Pages → (address : ℕ) → Option Rights
