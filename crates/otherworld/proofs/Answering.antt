@@ -4,8 +4,8 @@ use Rattle.std.proofs.lemmas.Grind.{common_steps}
 use Rattle.ow_base.specs.Words.{minus}
 use Rattle.ow_base.specs.UserStep.{register}
 use Rattle.ow_base.specs.Pages.{Pages, is_readable, bytes_at}
-use Rattle.ow_base.specs.Unix.{CallState}
-use Rattle.ow_base.specs.Calls.{answered, stays_in, tty_write, write_entry, description_of, called, call_number, exit_entry, ended_as, tty_piece}
+use Rattle.record_layouts.specs.Unix.{CallState}
+use Rattle.record_layouts.specs.Calls.{answered, stays_in, tty_write, write_entry, description_of, called, call_number, exit_entry, ended_as, tty_piece}
 use Rattle.ow_base.specs.declared.machine.Bank.{Bank}
 use Rattle.ow_plant.specs.State.{PlantState}
 use Rattle.otherworld.specs.State.{pages_at}

@@ -7,7 +7,8 @@ use Rattle.std.proofs.Math.Nat.{zero-div}
 use Rattle.ow_base.specs.Words.{byte_of_words}
 use Rattle.ow_base.specs.Pages.{Pages}
 use Rattle.ow_base.specs.Sv32.{WordMap}
-use Rattle.ow_base.specs.Unix.{is_within, page_count, started_pages, started_rights, started_byte}
+use Rattle.record_layouts.specs.Unix.{is_within, started_pages, started_rights, started_byte}
+use Rattle.ow_base.specs.World.{page_count}
 use Rattle.ow_base.specs.declared.machine.Rights.{Rights}
 use Rattle.ow_base.specs.declared.machine.Rights.TheVariants.{Code, Values}
 use Rattle.ow_base.specs.declared.worlds.Program.{Program}

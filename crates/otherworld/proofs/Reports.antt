@@ -8,7 +8,7 @@ use Rattle.std.proofs.Math.Seq.{drop-length}
 use Rattle.std.proofs.lemmas.Bool.{cases_lt, and_parts, and_cases, eqb-true}
 use Rattle.std.proofs.lemmas.Bool.Decides.{nat_tests}
 use Rattle.ow_base.specs.Lines.{line, spaced, escaped}
-use Rattle.ow_base.specs.Report.{status_words, process_line, out_lines, trimmed, kept_before, row_lines, row_line_of, process_lines, head_text, terminal_text, report_of}
+use Rattle.record_layouts.specs.Report.{status_words, process_line, out_lines, trimmed, kept_before, row_lines, row_line_of, process_lines, head_text, terminal_text, report_of}
 use Rattle.ow_base.specs.declared.worlds.Ending.{Ending}
 use Rattle.ow_plant.specs.State.{PlantState}
 use Rattle.otherworld.specs.declared.kernel_traps.Kernel.{Kernel}

@@ -1,7 +1,7 @@
 -- What boot leaves stands for the state that the load begins with.
 use Rattle.std.proofs.Common.{◌≡◌, ℕ, zero, suc, ◌+◌, ◌-◌, ◌*◌, ◌<◌, ◌≤◌, true, false, nat_eq, [], length, Some, None, refl, arith}
 use Rattle.ow_base.specs.Screen.{screen_of}
-use Rattle.ow_base.specs.Unix.{Out, silent_terminal, AtKernel, started_pages, started_process, started_bank, started_as, started_description, start_of}
+use Rattle.record_layouts.specs.Unix.{Out, silent_terminal, AtKernel, started_pages, started_process, started_bank, started_as, started_description, start_of}
 use Rattle.ow_base.specs.declared.machine.Bank.{Bank}
 use Rattle.ow_base.specs.declared.worlds.Load.{Load}
 use Rattle.ow_base.specs.declared.worlds.Program.{Program}

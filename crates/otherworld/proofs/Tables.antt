@@ -4,13 +4,14 @@ use Rattle.std.proofs.lemmas.Bool.{cases_lt}
 use Rattle.std.proofs.lemmas.Bool.Decides.{nat_tests}
 use Rattle.std.proofs.lemmas.List.{get_or_past}
 use Rattle.ow_base.specs.Sv32.{WordMap}
-use Rattle.ow_base.specs.Unix.{is_within, page_count}
+use Rattle.record_layouts.specs.Unix.{is_within}
+use Rattle.ow_base.specs.World.{page_count}
 use Rattle.ow_base.specs.declared.worlds.Program.{Program}
 use Rattle.phys_memory.specs.Memory.{MemoryParts, IsSized, words_of, zeroed}
 use Rattle.phys_memory.proofs.Words.{words_of-zeroed, words_of-some, frame_count-sized}
 use Rattle.sv32_tables.specs.Entries.{pointer_word}
 use Rattle.sv32_tables.specs.Spaces.{Mapping, IsMapped, entry_of}
-use Rattle.ow_base.specs.Unix.{started_pages}
+use Rattle.record_layouts.specs.Unix.{started_pages}
 use Rattle.sv32_tables.proofs.Spaces.{pages_by-mapped}
 use Rattle.otherworld.specs.State.{pages_at, HasPages}
 use Rattle.otherworld.specs.Boot.{with_words, with_leaves, with_program, started_map, with_tables}

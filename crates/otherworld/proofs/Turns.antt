@@ -3,11 +3,11 @@ use Rattle.std.proofs.Common.{◌≡◌, ℕ, zero, suc, ◌+◌, ◌-◌, ◌^�
 use Rattle.std.proofs.lemmas.Grind.{common_steps}
 use Rattle.ow_base.specs.UserStep.{Stepped, Next, Call, Faulted, user_step, register}
 use Rattle.ow_base.specs.Pages.{Pages, page_space}
-use Rattle.ow_base.specs.Unix.{Unix, Process, Out, In, AtKernel}
-use Rattle.ow_base.specs.Choice.{chosen, least_from, settled, settled_at, settled_on, returned_as, returned_to as unix_returned_to, is_any_live}
-use Rattle.ow_base.specs.Calls.{trapped, entered as call_entered, called, call_number, ended_as, piece_of, continued, tty_write, description_of, piece_by, piece_on, argument}
-use Rattle.ow_base.specs.Turn.{turn, turn_at, user_turn, stepped, step_of, piece_or_idle, piece_if_live, ending_of, closed}
-use Rattle.ow_base.specs.Run.{RunsFrom, ends, goes_on}
+use Rattle.record_layouts.specs.Unix.{Unix, Process, Out, In, AtKernel}
+use Rattle.record_layouts.specs.Choice.{chosen, least_from, settled, settled_at, settled_on, returned_as, returned_to as unix_returned_to, is_any_live}
+use Rattle.record_layouts.specs.Calls.{trapped, entered as call_entered, called, call_number, ended_as, piece_of, continued, tty_write, description_of, piece_by, piece_on, argument}
+use Rattle.record_layouts.specs.Turn.{turn, turn_at, user_turn, stepped, step_of, piece_or_idle, piece_if_live, ending_of, closed}
+use Rattle.record_layouts.specs.Run.{RunsFrom, ends, goes_on}
 use Rattle.ow_base.specs.declared.worlds.Ending.{Ending}
 use Rattle.ow_base.specs.declared.worlds.Ending.TheVariants.{Done, Budget}
 use Rattle.ow_base.specs.declared.machine.Bank.{Bank}

@@ -4,13 +4,13 @@ use Rattle.std.specs.Fmt.{digits}
 use Rattle.ow_base.specs.Lines.{hex8, escaped_byte}
 use Rattle.ow_base.specs.UserStep.{immediate_act, register_act, branch_act, load_act, store_act, system_act, act_of, gone_to, after_load, after_store, acted, after_fetch, user_step}
 use Rattle.ow_base.specs.Pages.{page_space, is_readable, bytes_at}
-use Rattle.ow_base.specs.Unix.{Unix, started_rights, started_byte, started_pages, started_process, started_as, started_description, start_of}
-use Rattle.ow_base.specs.Choice.{least_from, chosen, is_any_live, settled}
-use Rattle.ow_base.specs.Calls.{trapped, answered, stays_in, ended_as, description_of, tty_write, write_entry, exit_entry, called, entered, continued, piece_of}
-use Rattle.ow_base.specs.Turn.{step_of, stepped, user_turn, idled, turn_at, turn, ending_of, closed}
-use Rattle.ow_base.specs.Run.{Run, RunsFrom, ends, goes_on}
+use Rattle.record_layouts.specs.Unix.{Unix, started_rights, started_byte, started_pages, started_process, started_as, started_description, start_of}
+use Rattle.record_layouts.specs.Choice.{least_from, chosen, is_any_live, settled}
+use Rattle.record_layouts.specs.Calls.{trapped, answered, stays_in, ended_as, description_of, tty_write, write_entry, exit_entry, called, entered, continued, piece_of}
+use Rattle.record_layouts.specs.Turn.{step_of, stepped, user_turn, idled, turn_at, turn, ending_of, closed}
+use Rattle.record_layouts.specs.Run.{Run, RunsFrom, ends, goes_on}
 use Rattle.ow_base.specs.Screen.{blank_screen, on_next_line, printed, drawn, screen_of}
-use Rattle.ow_base.specs.Report.{head_text, status_words, process_lines, out_lines, trimmed, row_lines, screen_text, terminal_text, report_of}
+use Rattle.record_layouts.specs.Report.{head_text, status_words, process_lines, out_lines, trimmed, row_lines, screen_text, terminal_text, report_of}
 use Rattle.ow_base.specs.Outside.{appended}
 use Rattle.ow_base.specs.World.{IsWorld}
 use Rattle.ow_base.specs.declared.machine.Shape.{Shape}

@@ -1,7 +1,8 @@
 -- What boot makes of memory: the words of a program, and the page tables that map its pages to frames.
 use Rattle.std.specs.Prelude.{ℕ, ◌+◌, ◌-◌, ◌*◌, nat_lt, ◌&&◌, ◌==◌, if◌then◌else◌, List, length, slice_index, Option, Some, None}
 use Rattle.ow_base.specs.Sv32.{WordMap}
-use Rattle.ow_base.specs.Unix.{is_within, page_count}
+use Rattle.record_layouts.specs.Unix.{is_within}
+use Rattle.ow_base.specs.World.{page_count}
 use Rattle.ow_base.specs.declared.machine.Rights.{Rights}
 use Rattle.ow_base.specs.declared.machine.Rights.TheVariants.{Code, Values}
 use Rattle.ow_base.specs.declared.worlds.Program.{Program}

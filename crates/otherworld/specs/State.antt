@@ -5,7 +5,7 @@ use Rattle.ow_base.specs.Words.{wrapped, minus}
 use Rattle.ow_base.specs.Pages.{Pages, page_space}
 use Rattle.ow_base.specs.Sv32.{pages_by}
 use Rattle.ow_base.specs.UserStep.{Stepped, Next, Call, Faulted, register, with_register, user_step}
-use Rattle.ow_base.specs.Unix.{Unix, Process, CallState, Out, In, Description, OnTty, Terminal, silent_terminal, AtKernel, AtUser, Position, started_descriptors}
+use Rattle.record_layouts.specs.Unix.{Unix, Process, CallState, Out, In, Description, OnTty, Terminal, silent_terminal, AtKernel, AtUser, Position, started_descriptors}
 use Rattle.ow_base.specs.World.{started_page_count}
 use Rattle.ow_base.specs.declared.machine.Bank.{Bank}
 use Rattle.ow_base.specs.declared.worlds.Load.{Load}

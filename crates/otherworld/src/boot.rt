@@ -1,5 +1,6 @@
 ghost use Rattle.std.specs.Prelude.{◌≡◌, ℕ, ◌+◌, ◌*◌, ◌^◌, ◌<◌, ◌≤◌, true, false, length, Some, slice_get};
-ghost use Rattle.ow_base.specs.Unix.{start_of, page_count};
+ghost use Rattle.record_layouts.specs.Unix.{start_of};
+ghost use Rattle.ow_base.specs.World.{page_count};
 ghost use Rattle.ow_base.specs.World.{started_page_count};
 ghost use Rattle.ow_base.specs.declared.worlds.Load.{Load};
 ghost use Rattle.phys_memory.specs.Memory.{IsSized, words_of, frame_count};

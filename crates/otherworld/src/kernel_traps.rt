@@ -1,9 +1,9 @@
 ghost use Rattle.std.specs.Prelude.{◌≡◌, ℕ, ◌+◌, ◌^◌, ◌<◌, ◌≤◌, true, false, None, ◌↔◌, length, IsOk, IfOk, IfSome, IsNone};
 ghost use Rattle.ow_base.specs.Pages.{is_readable, bytes_at};
 ghost use Rattle.ow_base.specs.Words.{minus};
-ghost use Rattle.ow_base.specs.Unix.{AtKernel};
-ghost use Rattle.ow_base.specs.Calls.{tty_write, write_entry as write_entered, called, call_number};
-ghost use Rattle.ow_base.specs.Turn.{turn, turn_at, closed};
+ghost use Rattle.record_layouts.specs.Unix.{AtKernel};
+ghost use Rattle.record_layouts.specs.Calls.{tty_write, write_entry as write_entered, called, call_number};
+ghost use Rattle.record_layouts.specs.Turn.{turn, turn_at, closed};
 ghost use Rattle.ow_base.specs.Pages.{rights_at};
 ghost use Rattle.ow_plant.specs.State.{entered, tty_of};
 ghost use Rattle.sv32_tables.specs.Spaces.{satp_of};

@@ -1,6 +1,6 @@
 ghost use Rattle.std.specs.Prelude.{◌≡◌, List};
-ghost use Rattle.ow_base.specs.Run.{Run};
-ghost use Rattle.ow_base.specs.Unix.{Unix};
+ghost use Rattle.record_layouts.specs.Run.{Run};
+ghost use Rattle.record_layouts.specs.Unix.{Unix};
 ghost use Rattle.ow_base.specs.declared.worlds.World.{World};
 ghost use Rattle.ow_base.specs.declared.worlds.Ending.{Ending};
 ghost use Rattle.ow_base.specs.declared.worlds.PanicRecord.{PanicRecord};

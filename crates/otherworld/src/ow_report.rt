@@ -1,7 +1,7 @@
 ghost use Rattle.std.specs.Prelude.{◌≡◌, ℕ, ◌+◌, ◌-◌, ◌^◌, ◌<◌, ◌≤◌, List, [], ◌∷◌, length, codes, decimal, flat_map, OnErr, Some};
 ghost use Rattle.ow_base.specs.Lines.{line, spaced, number_line, escaped};
 ghost use Rattle.ow_base.specs.Outside.{Rose, Writes};
-ghost use Rattle.ow_base.specs.Report.{head_text, ending_word, status_words, process_line, out_lines, tape_text, row_lines, trimmed, row_line_of, screen_text, terminal_text, report_of};
+ghost use Rattle.record_layouts.specs.Report.{head_text, ending_word, status_words, process_line, out_lines, tape_text, row_lines, trimmed, row_line_of, screen_text, terminal_text, report_of};
 ghost use Rattle.otherworld.specs.State.{unix_of, exit_of, IsRunOver};
 ghost use Rattle.otherworld.specs.Writing.{word_text, next_word, line_text, exit_key, exit_number, status_of, IsExit, tape_line_count};
 

@@ -1,6 +1,6 @@
 ghost use Rattle.std.specs.Prelude.{◌≡◌, true, []};
-ghost use Rattle.ow_base.specs.Turn.{ending_of};
-ghost use Rattle.ow_base.specs.Run.{RunsFrom};
+ghost use Rattle.record_layouts.specs.Turn.{ending_of};
+ghost use Rattle.record_layouts.specs.Run.{RunsFrom};
 ghost use Rattle.otherworld.specs.State.{unix_of, IsSound, IsRunOver};
 
 use crate::kernel_traps::{Kernel, serve_trap, shutdown};

@@ -2,7 +2,6 @@
 use Rattle.std.specs.Prelude.{◌≡◌, ℕ, ◌+◌, ◌/◌, ◌^◌, ◌<◌, ◌≤◌, ◌==◌, if◌then◌else◌, Bool, true, false, List, [], ◌∷◌, ◌++◌, length, map, flat_map, sum_by, slice_get, All, AllPairs, Option, Some, None, codes, decimal}
 use Rattle.std.specs.List.{concat}
 use Rattle.ow_base.specs.Lines.{line, spaced, number_line, hex8, escaped}
-use Rattle.ow_base.specs.Unix.{page_count}
 use Rattle.ow_base.specs.declared.machine.Shape.{Shape}
 use Rattle.ow_base.specs.declared.worlds.World.{World}
 use Rattle.ow_base.specs.declared.worlds.FileText.{FileText}
@@ -100,6 +99,10 @@ pub record IsStart (programs : List Program) (text : List ℕ) (start : Started)
   pub found : slice_get programs start.program ≡ Some program
   pub spelled : text ≡ start_line program start
   pub tty : start.tty < 2
+
+-- the pages that so many words need
+abbrev pub page_count : List ℕ → ℕ
+page_count words = (length words + 1023) / 1024
 
 -- the pages of a process that starts: code, data and four of stack
 abbrev pub started_page_count : Program → ℕ

@@ -1,7 +1,7 @@
 ghost use Rattle.std.specs.Prelude.{◌≡◌, ℕ, ◌+◌, ◌<◌, ◌≤◌, ◌++◌, List, [], ◌∷◌, length, IfOk, Option, Some, None, option_map, option_to_list, bytes_eq, find};
 ghost use Rattle.std.specs.List.{list_any, position_or_len};
 ghost use Rattle.ow_base.specs.World.{started_page_count};
-ghost use Rattle.ow_base.specs.Unix.{page_count};
+ghost use Rattle.ow_base.specs.World.{page_count};
 ghost use Rattle.ow_base.specs.declared.worlds.Program.{Program};
 ghost use Rattle.world_file.specs.declared.key.Key.TheVariants.{Program as ProgramKey};
 ghost use Rattle.world_file.specs.WorldLines.{key, word_at, number_at, words_of};

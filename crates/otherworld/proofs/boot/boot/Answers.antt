@@ -1,7 +1,8 @@
 use Rattle.std.proofs.Common.{◌≡◌, ℕ, ◌*◌, ap, sym, subst, ◌∙◌, arith}
 use Rattle.std.proofs.lemmas.Grind.{common_steps}
 use Rattle.ow_base.specs.Sv32.{WordMap}
-use Rattle.ow_base.specs.Unix.{page_count, started_bank, started_pages}
+use Rattle.record_layouts.specs.Unix.{started_bank, started_pages}
+use Rattle.ow_base.specs.World.{page_count}
 use Rattle.ow_base.specs.declared.machine.Shape.{Shape}
 use Rattle.ow_base.specs.declared.worlds.Program.{Program}
 use Rattle.phys_memory.specs.Memory.{MemoryParts, IsSized, words_of, zeroed}

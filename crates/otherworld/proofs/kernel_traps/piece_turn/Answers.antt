@@ -1,5 +1,5 @@
 use Rattle.std.proofs.Common.{◌≡◌, ◌<◌, ◌^◌, ◌-◌, ap, subst, arith}
-use Rattle.ow_base.specs.Unix.{In}
+use Rattle.record_layouts.specs.Unix.{In}
 use Rattle.ow_base.specs.UserStep.{register}
 use Rattle.ow_plant.specs.State.{entered}
 use Rattle.otherworld.specs.State.{pages_at}

@@ -1,7 +1,7 @@
 use Rattle.std.proofs.Common.{◌≡◌, ap, sym, ◌∙◌, false}
-use Rattle.ow_base.specs.Turn.{turn_at}
-use Rattle.ow_base.specs.Choice.{settled}
-use Rattle.ow_base.specs.Unix.{Position}
+use Rattle.record_layouts.specs.Turn.{turn_at}
+use Rattle.record_layouts.specs.Choice.{settled}
+use Rattle.record_layouts.specs.Unix.{Position}
 use Rattle.ow_plant.specs.State.{returned_to}
 use Rattle.otherworld.specs.declared.kernel_traps.Kernel.{Kernel}
 use Rattle.otherworld.specs.declared.kernel_traps.Life.{Life}

@@ -1,5 +1,5 @@
 use Rattle.std.proofs.Common.{◌≡◌, ◌<◌, ◌^◌, ◌-◌, ap, sym, ◌∙◌, true, arith}
-use Rattle.ow_base.specs.Turn.{closed}
+use Rattle.record_layouts.specs.Turn.{closed}
 use Rattle.ow_base.specs.declared.machine.Came.TheVariants as came
 use Rattle.ow_plant.specs.State.{PlantState, entered}
 use Rattle.otherworld.specs.declared.kernel_traps.Kernel.{Kernel}

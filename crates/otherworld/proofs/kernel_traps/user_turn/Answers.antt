@@ -1,6 +1,6 @@
 use Rattle.std.proofs.Common.{◌≡◌, ◌<◌, ◌^◌, ◌-◌, ◌+◌, ap, ◌∙◌, arith}
-use Rattle.ow_base.specs.Turn.{turn_at}
-use Rattle.ow_base.specs.Calls.{called, call_number}
+use Rattle.record_layouts.specs.Turn.{turn_at}
+use Rattle.record_layouts.specs.Calls.{called, call_number}
 use Rattle.ow_plant.specs.State.{PlantState, entered}
 use Rattle.ow_base.specs.declared.machine.Came.TheVariants as came
 use Rattle.otherworld.specs.declared.kernel_traps.Kernel.{Kernel}

@@ -1,7 +1,7 @@
 use Rattle.std.proofs.Common.{◌≡◌, ◌+◌, refl, arith}
 use Rattle.std.proofs.lemmas.Grind.{common_steps}
 use Rattle.ow_base.specs.UserStep.{register}
-use Rattle.ow_base.specs.Calls.{tty_piece}
+use Rattle.record_layouts.specs.Calls.{tty_piece}
 use Rattle.ow_base.specs.Pages.{bytes_at}
 use Rattle.otherworld.specs.State.{pages_at}
 use Rattle.otherworld.specs.State.{with_puts, written_life}

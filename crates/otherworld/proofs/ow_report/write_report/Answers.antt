@@ -2,7 +2,7 @@
 use Rattle.std.proofs.Common.{◌++◌}
 use Rattle.std.specs.Prelude.{codes}
 use Rattle.ow_base.specs.Lines.{line}
-use Rattle.ow_base.specs.Report.{head_text, process_line, terminal_text}
+use Rattle.record_layouts.specs.Report.{head_text, process_line, terminal_text}
 use Rattle.ow_base.proofs.Writing.{cut}
 use Rattle.otherworld.specs.State.{exit_of}
 use Rattle.otherworld.proofs.Reports.{begun, further, broken, finished, report_parts}

@@ -1,6 +1,6 @@
 use Rattle.std.proofs.Common.{◌≡◌, ap, sym, ◌∙◌, refl, true, false, nat_eq, arith}
 use Rattle.std.proofs.lemmas.Grind.{common_steps}
-use Rattle.ow_base.specs.Turn.{ending_of}
+use Rattle.record_layouts.specs.Turn.{ending_of}
 use Rattle.otherworld.specs.declared.kernel_traps.Life.{Life}
 use Rattle.otherworld.specs.State.{unix_of}
 use Rattle.otherworld.proofs.Turns.{ending_of-ended, ending_of-live}

@@ -1,5 +1,5 @@
 use Rattle.std.proofs.Common.{◌≡◌, sym, ◌∙◌, subst, Some, None, arith}
-use Rattle.ow_base.specs.Turn.{ending_of, turn}
+use Rattle.record_layouts.specs.Turn.{ending_of, turn}
 use Rattle.ow_base.specs.declared.machine.Shape.{Shape}
 use Rattle.otherworld.specs.State.{unix_of}
 use Rattle.otherworld.proofs.Turns.{not_ended, run_more, run_ends}

@@ -1,6 +1,6 @@
 use Rattle.std.proofs.Common.{◌≡◌, ◌-◌, []}
-use Rattle.ow_base.specs.Unix.{Unix}
-use Rattle.ow_base.specs.Run.{RunsFrom}
+use Rattle.record_layouts.specs.Unix.{Unix}
+use Rattle.record_layouts.specs.Run.{RunsFrom}
 use Rattle.ow_base.specs.declared.worlds.Ending.{Ending}
 use Rattle.otherworld.specs.State.{unix_of, IsSound}
 use Rattle.otherworld.proofs.schedule_runner.run.Given as goal

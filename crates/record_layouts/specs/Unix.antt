@@ -2,6 +2,7 @@
 use Rattle.std.specs.Prelude.{ℕ, ◌+◌, ◌-◌, ◌*◌, ◌/◌, Bool, true, false, nat_lt, nat_le, ◌&&◌, ◌==◌, if◌then◌else◌, List, [], ◌∷◌, length, replicate, slice_get, Option, Some, None, option_and_then}
 use Rattle.ow_base.specs.Words.{byte_of_words}
 use Rattle.ow_base.specs.Pages.{Pages}
+use Rattle.ow_base.specs.World.{page_count}
 use Rattle.ow_base.specs.declared.machine.Bank.{Bank}
 use Rattle.ow_base.specs.declared.machine.Rights.{Rights}
 use Rattle.ow_base.specs.declared.machine.Rights.TheVariants.{Code, Values}
@@ -80,10 +81,6 @@ pub record Unix : Type 0 where
   pub steps : ℕ
   pub traps : ℕ
   pub position : Position
-
--- the pages that so many words need
-abbrev pub page_count : List ℕ → ℕ
-page_count words = (length words + 1023) / 1024
 
 -- the address of the code, and the page numbers of code and stack
 abbrev pub code_start : ℕ

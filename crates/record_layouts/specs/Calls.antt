@@ -3,7 +3,7 @@ use Rattle.std.specs.Prelude.{ℕ, ◌+◌, ◌-◌, ◌%◌, Bool, true, false,
 use Rattle.ow_base.specs.Words.{wrapped, minus, updated}
 use Rattle.ow_base.specs.UserStep.{register, with_register}
 use Rattle.ow_base.specs.Pages.{is_readable, bytes_at}
-use Rattle.ow_base.specs.Unix.{Unix, Process, CallState, Out, In, AtKernel, EndedChild, Object, OnFile, OnTty, Description, Terminal}
+use Rattle.record_layouts.specs.Unix.{Unix, Process, CallState, Out, In, AtKernel, EndedChild, Object, OnFile, OnTty, Description, Terminal}
 
 -- the argument registers, and the register of the call's number
 abbrev pub argument : Process → (index : ℕ) → ℕ

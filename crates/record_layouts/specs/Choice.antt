@@ -1,6 +1,6 @@
 -- Which process is next.
 use Rattle.std.specs.Prelude.{ℕ, zero, suc, ◌+◌, ◌-◌, Bool, true, false, ◌==◌, if◌then◌else◌, Option, Some, None}
-use Rattle.ow_base.specs.Unix.{Unix, Process, CallState, Out, In, Position, AtKernel, AtUser, AtPanic}
+use Rattle.record_layouts.specs.Unix.{Unix, Process, CallState, Out, In, Position, AtKernel, AtUser, AtPanic}
 
 -- a call in progress can go on: a write always can
 abbrev pub can_go_on : (number : ℕ) → Bool

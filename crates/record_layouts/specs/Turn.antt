@@ -2,9 +2,9 @@
 use Rattle.std.specs.Prelude.{ℕ, ◌+◌, ◌-◌, nat_lt, ◌==◌, if◌then◌else◌, Option, Some, None}
 use Rattle.ow_base.specs.UserStep.{Stepped, Next, Call, Faulted, user_step}
 use Rattle.ow_base.specs.Pages.{Pages, page_space}
-use Rattle.ow_base.specs.Unix.{Unix, Process, Position, AtKernel, AtUser, AtPanic}
-use Rattle.ow_base.specs.Choice.{chosen, settled, is_any_live}
-use Rattle.ow_base.specs.Calls.{trapped, with_process, ended_as, entered, piece_of}
+use Rattle.record_layouts.specs.Unix.{Unix, Process, Position, AtKernel, AtUser, AtPanic}
+use Rattle.record_layouts.specs.Choice.{chosen, settled, is_any_live}
+use Rattle.record_layouts.specs.Calls.{trapped, with_process, ended_as, entered, piece_of}
 use Rattle.ow_base.specs.declared.machine.Shape.{Shape}
 use Rattle.ow_base.specs.declared.worlds.Ending.{Ending}
 use Rattle.ow_base.specs.declared.worlds.Ending.TheVariants.{Done, Budget}
