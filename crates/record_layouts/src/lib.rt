@@ -4,7 +4,5 @@
 
 mod head;
 mod spelling;
-#[cfg(test)]
-mod tests;
 
 pub use head::{HeadRec, heads_are_spelled_once};
