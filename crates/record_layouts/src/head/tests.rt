@@ -22,25 +22,9 @@ fn is_read_with(word: usize, value: u32) -> bool {
 #[test]
 fn words_of_a_head(rt: HostRuntime) {
     let words = HEAD.to_words();
-    let spelled = [
-        0x4845_4144,
-        1,
-        7,
-        2,
-        3,
-        63,
-        0,
-        0,
-        0,
-        0,
-        0,
-        0,
-        0,
-        0,
-        0,
-        0x605b_b110,
-    ];
-    assert_eq!(rt; words, spelled);
+    assert_eq!(rt; &words[..6], [0x4845_4144, 1, 7, 2, 3, 63].as_slice());
+    assert_eq!(rt; &words[6..15], [0; 9].as_slice());
+    assert_eq!(rt; words[15], 0x605b_b110);
     assert_eq!(rt; HeadRec::from_words(&words), Some(HEAD));
 }
 
