@@ -1,4 +1,4 @@
-//! The head of an area: what the kernel that lives in it knows as a whole.
+//! The record of the head of an area.
 
 ghost use Rattle.std.specs.Prelude.{◌≡◌, ◌≢◌, ℕ, ◌^◌, ◌<◌, ◌↔◌, List, slice_index, slice_set, IsTrue, IfSome, IfNone};
 ghost use Rattle.record_layouts.specs.declared.head.HeadRec.{HeadRec};
@@ -75,3 +75,6 @@ pub const fn heads_are_spelled_once()
     ensures changed { (words : List ℕ) (head : HeadRec) → IsHead words head → (i value : ℕ) → i < 16 → value < 2 ^ 32
         → value ≢ slice_index words i → (other : HeadRec) → IsHead (slice_set words i value) other → ⊥ }
 {}
+
+#[cfg(test)]
+mod tests;
