@@ -1,0 +1,3 @@
+-- Which words are a record of which value.
+pub mod Spelling
+pub mod Head
