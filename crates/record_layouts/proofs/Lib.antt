@@ -1,0 +1,2 @@
+-- Lemmas on records of any kind.
+pub mod Records
