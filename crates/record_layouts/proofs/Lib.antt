@@ -1,2 +1,3 @@
 -- Lemmas on records of any kind.
 pub mod Records
+pub mod Parts

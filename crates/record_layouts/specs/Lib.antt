@@ -1,3 +1,4 @@
 -- Which words are a record of which value.
 pub mod Spelling
 pub mod Head
+pub mod Proc

@@ -3,8 +3,10 @@
 #![tactic(auto)]
 
 mod head;
+mod proc;
 mod spelling;
 #[cfg(test)]
 mod tests;
 
 pub use head::{HeadRec, heads_are_spelled_once};
+pub use proc::{ProcRec, processes_are_spelled_once};
