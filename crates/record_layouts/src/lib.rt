@@ -2,11 +2,17 @@
 //! spelling, and a record of which one word is changed is no record any more.
 #![tactic(auto)]
 
+mod cache;
+mod desc;
+mod exit;
 mod head;
 mod proc;
 mod spelling;
-#[cfg(test)]
-mod tests;
+mod term;
 
+pub use cache::{CacheRec, cache_entries_are_spelled_once};
+pub use desc::{DescRec, descriptions_are_spelled_once};
+pub use exit::{ExitRec, exits_are_spelled_once};
 pub use head::{HeadRec, heads_are_spelled_once};
 pub use proc::{ProcRec, processes_are_spelled_once};
+pub use term::{TermRec, terminals_are_spelled_once};
