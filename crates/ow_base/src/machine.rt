@@ -29,6 +29,13 @@ impl Regs {
         Regs { words: [0; 31] }
     }
 
+    /// The words of x1 to x31, in this order.
+    pub const fn words(&self) -> &[u32; 31]
+        ensures { result.now ≡ self.now }
+    {
+        &self.words
+    }
+
     /// The word in a register, below 32. x0 gives 0.
     pub fn get(&self, r: u32) -> u32
         requires { r < 32 }
@@ -49,6 +56,15 @@ impl Regs {
         if r != 0 {
             self.words[r as usize - 1] = value;
         }
+    }
+}
+
+/// The registers that hold these words, x1 first.
+impl From<[u32; 31]> for Regs {
+    ghost from_gives = { λ words regs. regs ≡ words };
+
+    fn from(words: [u32; 31]) -> Regs {
+        Regs { words }
     }
 }
 

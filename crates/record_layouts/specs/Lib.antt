@@ -7,6 +7,7 @@ pub mod Run
 pub mod Report
 pub mod Spelling
 pub mod Head
+pub mod Proc
 pub mod Desc
 pub mod Cache
 pub mod Exit

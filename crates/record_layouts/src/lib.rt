@@ -6,6 +6,7 @@ mod cache;
 mod desc;
 mod exit;
 mod head;
+mod proc;
 mod spelling;
 mod term;
 
@@ -13,4 +14,5 @@ pub use cache::{CacheRec, cache_entries_are_spelled_once};
 pub use desc::{DescRec, descriptions_are_spelled_once};
 pub use exit::{ExitRec, exits_are_spelled_once};
 pub use head::{HeadRec, heads_are_spelled_once};
+pub use proc::{ProcRec, processes_are_spelled_once};
 pub use term::{TermRec, terminals_are_spelled_once};
