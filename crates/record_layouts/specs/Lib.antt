@@ -1,3 +1,7 @@
 -- Which words are a record of which value.
 pub mod Spelling
 pub mod Head
+pub mod Packing
+pub mod Sig
+pub mod File
+pub mod Row

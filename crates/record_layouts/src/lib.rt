@@ -2,7 +2,14 @@
 //! spelling, and a record of which one word is changed is no record any more.
 #![tactic(auto)]
 
+mod file;
 mod head;
+mod packing;
+mod row;
+mod sig;
 mod spelling;
 
+pub use file::{FileRec, files_are_spelled_once};
 pub use head::{HeadRec, heads_are_spelled_once};
+pub use row::{RowRec, rows_are_spelled_once};
+pub use sig::{SigRec, signals_are_spelled_once};
