@@ -131,3 +131,6 @@ fn are_empty(bytes: &[u8]) -> bool
 {
     bytes.iter().all(|byte| *byte == 0)
 }
+
+#[cfg(test)]
+mod tests;
