@@ -1,4 +1,4 @@
-//! A file: its name, its size, and where its pages lie on the disk.
+//! The record of a file.
 
 ghost use Rattle.std.specs.Prelude.{◌≡◌, ◌≢◌, ℕ, ◌^◌, ◌<◌, ◌≤◌, ◌↔◌, List, length, take, All, EachIndex, slice_index, slice_set, IsTrue, IfSome, IfNone};
 ghost use Rattle.record_layouts.specs.declared.file.FileRec.{FileRec};

@@ -1,4 +1,4 @@
-//! A row of a terminal.
+//! The record of a row of a terminal.
 
 ghost use Rattle.std.specs.Prelude.{◌≡◌, ◌≢◌, ℕ, ◌^◌, ◌<◌, List, slice_index, slice_set, IfSome, IfNone};
 ghost use Rattle.record_layouts.specs.declared.row.RowRec.{RowRec};

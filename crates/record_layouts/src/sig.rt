@@ -1,4 +1,4 @@
-//! The signals of a process.
+//! The record of a process's signals.
 
 ghost use Rattle.std.specs.Prelude.{◌≡◌, ◌≢◌, ℕ, ◌^◌, ◌<◌, ◌↔◌, List, slice_index, slice_set, IsTrue, IfSome, IfNone};
 ghost use Rattle.record_layouts.specs.declared.sig.SigRec.{SigRec};

@@ -22,25 +22,9 @@ fn is_read_with(word: usize, value: u32) -> bool {
 #[test]
 fn words_of_a_head(rt: HostRuntime) {
     let words = HEAD.to_words();
-    let spelled = [
-        0x4845_4144,
-        1,
-        7,
-        2,
-        3,
-        63,
-        0,
-        0,
-        0,
-        0,
-        0,
-        0,
-        0,
-        0,
-        0,
-        0x605b_b110,
-    ];
-    assert_eq!(rt; words, spelled);
+    assert_eq!(rt; &words[..6], [0x4845_4144, 1, 7, 2, 3, 63].as_slice());
+    assert_eq!(rt; &words[6..15], [0; 9].as_slice());
+    assert_eq!(rt; words[15], 0x605b_b110);
     assert_eq!(rt; HeadRec::from_words(&words), Some(HEAD));
 }
 
@@ -65,14 +49,5 @@ fn ranges_of_a_head(rt: HostRuntime) {
     ];
     for (word, value, read) in table {
         assert_eq!(rt; is_read_with(word, value), read, "word {word} as {value:x}");
-    }
-}
-
-#[test]
-fn a_changed_head_is_not_read(rt: HostRuntime) {
-    for word in 0..16 {
-        let mut words = HEAD.to_words();
-        words[word] ^= 0x8000_0000;
-        assert!(rt; HeadRec::from_words(&words).is_none(), "word {word}");
     }
 }

@@ -1,6 +1,3 @@
-use Rattle.std.proofs.Common.{rules, ◌≡◌, ◌≤◌, ◌↔◌, length, IsTrue, ℕ, ◌+◌, ◌-◌, ◌*◌, ◌<◌, arith}
-use Rattle.std.proofs.lemmas.Grind.{common_steps}
-use Rattle.record_layouts.specs.Spelling.{AreZero}
 use Rattle.record_layouts.proofs.Records.{zeros_of_range, range_of_zeros}
 use Rattle.record_layouts.proofs.spelling.are_zero.Goals as goal
 
