@@ -126,12 +126,3 @@ fn no_file(rt: HostRuntime) {
         assert!(rt; !is_read_with(words, &[(word, 1)]), "word {word}");
     }
 }
-
-#[test]
-fn a_changed_file_is_not_read(rt: HostRuntime) {
-    for word in 0..96 {
-        let mut words = spelled();
-        words[word] ^= 0x8000_0000;
-        assert!(rt; FileRec::from_words(&words).is_none(), "word {word}");
-    }
-}

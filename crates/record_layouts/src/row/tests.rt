@@ -59,12 +59,3 @@ fn ranges_of_a_row(rt: HostRuntime) {
         assert_eq!(rt; is_read_with(word, value), read, "word {word} as {value:x}");
     }
 }
-
-#[test]
-fn a_changed_row_is_not_read(rt: HostRuntime) {
-    for word in 0..24 {
-        let mut words = row().to_words();
-        words[word] ^= 0x8000_0000;
-        assert!(rt; RowRec::from_words(&words).is_none(), "word {word}");
-    }
-}

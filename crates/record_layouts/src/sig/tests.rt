@@ -54,12 +54,3 @@ fn ranges_of_signals(rt: HostRuntime) {
         assert_eq!(rt; is_read_with(word, value), read, "word {word} as {value:x}");
     }
 }
-
-#[test]
-fn changed_signals_are_not_read(rt: HostRuntime) {
-    for word in 0..32 {
-        let mut words = SIGNALS.to_words();
-        words[word] ^= 0x8000_0000;
-        assert!(rt; SigRec::from_words(&words).is_none(), "word {word}");
-    }
-}
