@@ -8,6 +8,10 @@ pub mod Report
 pub mod Spelling
 pub mod Head
 pub mod Proc
+pub mod Packing
+pub mod Sig
+pub mod File
+pub mod Row
 pub mod Desc
 pub mod Cache
 pub mod Exit

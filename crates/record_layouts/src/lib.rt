@@ -5,14 +5,21 @@
 mod cache;
 mod desc;
 mod exit;
+mod file;
 mod head;
 mod proc;
+mod packing;
+mod row;
+mod sig;
 mod spelling;
 mod term;
 
 pub use cache::{CacheRec, cache_entries_are_spelled_once};
 pub use desc::{DescRec, descriptions_are_spelled_once};
 pub use exit::{ExitRec, exits_are_spelled_once};
+pub use file::{FileRec, files_are_spelled_once};
 pub use head::{HeadRec, heads_are_spelled_once};
 pub use proc::{ProcRec, processes_are_spelled_once};
+pub use row::{RowRec, rows_are_spelled_once};
+pub use sig::{SigRec, signals_are_spelled_once};
 pub use term::{TermRec, terminals_are_spelled_once};
