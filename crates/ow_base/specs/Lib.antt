@@ -1,5 +1,6 @@
 -- The definitions that contracts cite: a Unix that never panics, and the texts in and out of it.
 pub mod Words
+pub mod Seals
 pub mod UserStep
 pub mod Pages
 pub mod Sv32

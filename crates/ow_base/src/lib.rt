@@ -6,6 +6,7 @@ mod machine;
 mod memory;
 mod numerals;
 mod outside;
+mod seals;
 mod sequence;
 mod standard;
 mod transfer;
@@ -18,6 +19,7 @@ pub use machine::{
 pub use memory::WordSource;
 pub use numerals::{decimal, hex8};
 pub use outside::{Failed, Sink, Source};
+pub use seals::{is_sealed, put_seal, seal};
 pub use sequence::List;
 pub use standard::{StdSink, StdSource};
 pub use transfer::{ReadAllFault, put_all, put_escaped, put_number, read_all};
