@@ -2,3 +2,4 @@
 pub mod Spelled
 pub mod Writing
 pub mod Simulations
+pub mod Sealing

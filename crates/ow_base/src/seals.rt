@@ -1,5 +1,5 @@
 ghost use Rattle.std.specs.Prelude.{◌≡◌, ◌≤◌, ◌↔◌, length, IsTrue};
-ghost use Rattle.ow_base.specs.Seals.{seal_from, IsSealed, sealed};
+ghost use Rattle.ow_base.specs.Seals.{seal_from, AreWords, IsSealed, sealed};
 
 /// The seal of a record: its kind word and the words behind it but the last, which holds the seal.
 ///
@@ -27,7 +27,8 @@ pub fn is_sealed(words: &[u32]) -> bool
 /// Puts the seal of the words before it in place of the last word. There are at least two words.
 pub fn put_seal(words: &mut [u32])
     requires { 2 ≤ length words.old }
-    ensures { words.new ≡ sealed words.old }
+    ensures seal { words.new ≡ sealed words.old }
+    ensures fits { AreWords words.new }
 {
     let last = words.len() - 1;
     words[last] = seal(words[0], &words[1..last]);

@@ -1,2 +1,3 @@
--- Lemmas.
+-- Lemmas on records of any kind.
+pub mod Records
 pub mod Ranges

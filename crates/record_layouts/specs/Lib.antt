@@ -1,2 +1,4 @@
--- The definitions that the contracts cite.
+-- Which words are a record of which value.
+pub mod Spelling
+pub mod Head
 pub mod Overlay

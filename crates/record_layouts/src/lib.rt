@@ -1,9 +1,15 @@
-//! The records of a kernel.
+//! The records of the kernel: which words of memory stand for which value, and back. Each value has one
+//! spelling, and a record of which one word is changed is no record any more.
 #![tactic(auto)]
 
+mod head;
 mod intent;
 mod overlay;
+mod spelling;
+#[cfg(test)]
+mod tests;
 
 pub use intent::Gate;
 pub use overlay::{gate, overlaid};
 pub use ow_base::WordSource;
+pub use head::{HeadRec, heads_are_spelled_once};
