@@ -1,3 +1,4 @@
 -- Lemmas on records of any kind.
 pub mod Records
 pub mod Ranges
+pub mod Intents

@@ -47,7 +47,7 @@ ranges_of-more (suc n) (suc m) (f ∷ g ∷ c ∷ words) p q =
     let short : length (drop c words) ≤ length words = omega (arith, length-drop {A = ℕ}) in
     rw (ranges_of-more n m (drop c words) (omega arith) (omega arith)) refl
 
-ranges_in-range : (f g c : ℕ) (words : List ℕ) → is_range f g c (length words) ≡ true
+pub ranges_in-range : (f g c : ℕ) (words : List ℕ) → is_range f g c (length words) ≡ true
     → ranges_in (f ∷ g ∷ c ∷ words) ≡ before (record { frame = f; first = g; words = take c words }) (ranges_in (drop c words))
 unfolding ranges_in ranges_of
 ranges_in-range f g c words e =

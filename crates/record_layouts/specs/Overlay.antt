@@ -137,6 +137,14 @@ open_or_broken None = Broken
 abbrev pub gate_of : Area → Gate
 gate_of area = if area gate_word == 0 then Closed else open_or_broken (open_ranges area)
 
+-- an intent with these ranges is open in the area, and it is valid
+pub record IsOpenIntent (area : Area) (ranges : List WordRange) : Type 0 where
+  pub opened : 0 < area gate_word
+  pub fits : area gate_word ≤ most_payload
+  pub sealed : area seal_word ≡ intent_seal area (payload_word + area gate_word)
+  pub spelled : words_from area payload_word (area gate_word) ≡ payload_of ranges
+  pub allowed : All IsAllowed ranges
+
 -- the range that begins at a place of the area, with so many words
 abbrev pub range_at : Area → (place count : ℕ) → WordRange
 range_at area place count = record { frame = area place; first = area (place + 1); words = words_from area (place + 3) count }

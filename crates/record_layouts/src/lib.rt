@@ -5,11 +5,13 @@
 mod head;
 mod intent;
 mod overlay;
+mod overlay_laws;
 mod spelling;
 #[cfg(test)]
 mod tests;
 
 pub use intent::Gate;
 pub use overlay::{gate, overlaid};
+pub use overlay_laws::{intents_are_read, other_words_stay, the_block_decides};
 pub use ow_base::WordSource;
 pub use head::{HeadRec, heads_are_spelled_once};
