@@ -2,3 +2,4 @@
 pub mod Spelling
 pub mod Head
 pub mod Overlay
+pub mod Places

@@ -6,6 +6,7 @@ mod head;
 mod intent;
 mod overlay;
 mod overlay_laws;
+mod places;
 mod spelling;
 #[cfg(test)]
 mod tests;
@@ -14,4 +15,5 @@ pub use intent::Gate;
 pub use overlay::{gate, overlaid};
 pub use overlay_laws::{intents_are_read, other_words_stay, the_block_decides};
 pub use ow_base::WordSource;
+pub use places::{RecordId, address, records_lie_apart};
 pub use head::{HeadRec, heads_are_spelled_once};
