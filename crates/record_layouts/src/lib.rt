@@ -9,6 +9,8 @@ mod overlay_laws;
 mod places;
 mod spelling;
 #[cfg(test)]
+mod overlay_tests;
+#[cfg(test)]
 mod tests;
 
 pub use intent::Gate;
