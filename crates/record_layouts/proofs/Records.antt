@@ -1,5 +1,5 @@
 -- Lemmas on records of any kind.
-use Rattle.std.proofs.Common.{◌≡◌, ◌≢◌, ℕ, ◌+◌, ◌-◌, ◌^◌, ◌<◌, ◌≤◌, arith, List, length, slice_index, slice_set, take, drop, replicate, get_or, ap, sym, ◌∙◌, ◌⊎◌, inl, inr}
+use Rattle.std.proofs.Common.{◌≡◌, ◌≢◌, ℕ, ◌+◌, ◌-◌, ◌^◌, ◌<◌, ◌≤◌, arith, List, length, slice_index, slice_set, take, drop, replicate, get_or, ap, sym, ◌∙◌, inl, inr}
 use Rattle.std.proofs.lemmas.Grind.{common_steps}
 use Rattle.std.proofs.lemmas.List.{same_lists, get_or_default, get_or-replicate}
 use Rattle.std.proofs.lemmas.Bool.{cases_eq, cases_lt}
@@ -48,14 +48,14 @@ nothing some others = record { at = λ k small. absurd (omega arith) }
 pub word : {some others : List ℕ} {value : ℕ} (end : ℕ) → Agree some others end → slice_index some end ≡ value → slice_index others end ≡ value
     → Agree some others (end + 1)
 word end before here there = record {
-    at = λ k small. elim (cases_eq k end) [ inl same ↦ rw same (here ∙ sym there) | inr other ↦ before.at k (omega arith) ];
+  at = λ k small. elim (cases_eq k end) [ inl same ↦ rw same (here ∙ sym there) | inr other ↦ before.at k (omega arith) ];
 }
 
 -- more words that are 0
 pub gap : {some others : List ℕ} {first : ℕ} (end : ℕ) → Agree some others first → AreZero some first end → AreZero others first end
     → Agree some others end
 gap {first = first} end before here there = record {
-    at = λ k small. elim (cases_lt k first) [ inl less ↦ before.at k less | inr more ↦ here k more small ∙ sym (there k more small) ];
+  at = λ k small. elim (cases_lt k first) [ inl less ↦ before.at k less | inr more ↦ here k more small ∙ sym (there k more small) ];
 }
 
 in_block : (words : List ℕ) (first k count : ℕ) → first ≤ k → k < first + count → get_or words k 0 ≡ get_or (take count (drop first words)) (k - first) 0
@@ -65,10 +65,10 @@ in_block words first k count from to = grind (arith, common_steps)
 pub block : {some others xs : List ℕ} {first : ℕ} (count : ℕ) → Agree some others first
     → take count (drop first some) ≡ xs → take count (drop first others) ≡ xs → Agree some others (first + count)
 block {some = some} {others = others} {first = first} count before here there = record {
-    at = λ k small. elim (cases_lt k first) [
-      inl less ↦ before.at k less
+  at = λ k small. elim (cases_lt k first) [
+    | inl less ↦ before.at k less
     | inr more ↦ in_block some first k count more small ∙ ap (λ ws. get_or ws (k - first) 0) (here ∙ sym there) ∙ sym (in_block others first k count more small)
-    ];
+  ];
 }
 
 -- one place of two lists within them, whatever stands for a place behind them
@@ -87,8 +87,8 @@ body_same some others count same long long_too =
     let here = body_long some count long in
     let there = body_long others count long_too in
     same_lists (take count (drop 1 some)) (take count (drop 1 others)) (here ∙ sym there)
-        (λ k d less. place_same (take count (drop 1 some)) (take count (drop 1 others)) k d less (omega arith)
-            (body_word some count k (omega arith) ∙ same.at (1 + k) (omega arith) ∙ sym (body_word others count k (omega arith))))
+    (λ k d less. place_same (take count (drop 1 some)) (take count (drop 1 others)) k d less (omega arith)
+    (body_word some count k (omega arith) ∙ same.at (1 + k) (omega arith) ∙ sym (body_word others count k (omega arith))))
 
 seal_same : (some others : List ℕ) (end : ℕ) → Agree some others end → 1 ≤ end → length some ≡ end + 1 → length others ≡ end + 1
     → seal_of some ≡ seal_of others
@@ -110,5 +110,5 @@ one_record some others end same positive long long_too seal seal_too =
     let there = rw place_too at seal_too in
     let last : slice_index some end ≡ slice_index others end = here ∙ seal_same some others end same positive long long_too ∙ sym there in
     same_lists some others (long ∙ sym long_too)
-        (λ k d less. place_same some others k d less (omega arith)
-            (elim (cases_eq k end) [ inl is ↦ rw is last | inr other ↦ same.at k (omega arith) ]))
+    (λ k d less. place_same some others k d less (omega arith)
+    (elim (cases_eq k end) [ inl is ↦ rw is last | inr other ↦ same.at k (omega arith) ]))

@@ -1,5 +1,5 @@
 -- The record of the head of an area.
-use Rattle.std.specs.Prelude.{◌≡◌, ℕ, ◌<◌, ◌≤◌, List, length, slice_index}
+use Rattle.std.specs.Prelude.{◌≡◌, ℕ, ◌≤◌, List, length, slice_index}
 use Rattle.ow_base.specs.Seals.{AreWords, IsSealed}
 use Rattle.record_layouts.specs.Spelling.{AreZero}
 use Rattle.record_layouts.specs.declared.head.HeadRec.{HeadRec}

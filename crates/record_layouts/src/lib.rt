@@ -10,8 +10,6 @@ mod places;
 mod spelling;
 #[cfg(test)]
 mod overlay_tests;
-#[cfg(test)]
-mod tests;
 
 pub use intent::Gate;
 pub use overlay::{gate, overlaid};
