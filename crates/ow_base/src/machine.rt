@@ -29,6 +29,20 @@ impl Regs {
         Regs { words: [0; 31] }
     }
 
+    /// The registers that hold these words, x1 first.
+    pub const fn of(words: [u32; 31]) -> Regs
+        ensures { result ≡ words }
+    {
+        Regs { words }
+    }
+
+    /// The words of x1 to x31.
+    pub const fn words(&self) -> &[u32; 31]
+        ensures { result.now ≡ self.now }
+    {
+        &self.words
+    }
+
     /// The word in a register, below 32. x0 gives 0.
     pub fn get(&self, r: u32) -> u32
         requires { r < 32 }

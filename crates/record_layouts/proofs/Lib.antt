@@ -2,3 +2,4 @@
 pub mod Records
 pub mod Ranges
 pub mod Intents
+pub mod Parts

@@ -3,3 +3,4 @@ pub mod Spelling
 pub mod Head
 pub mod Overlay
 pub mod Places
+pub mod Proc

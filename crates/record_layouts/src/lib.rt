@@ -7,6 +7,7 @@ mod intent;
 mod overlay;
 mod overlay_laws;
 mod places;
+mod proc;
 mod spelling;
 #[cfg(test)]
 mod overlay_tests;
@@ -17,3 +18,4 @@ pub use overlay_laws::{intents_are_read, other_words_stay, the_block_decides};
 pub use ow_base::WordSource;
 pub use places::{RecordId, address, records_lie_apart};
 pub use head::{HeadRec, heads_are_spelled_once};
+pub use proc::{ProcRec, processes_are_spelled_once};
