@@ -4,3 +4,7 @@ pub mod Head
 pub mod Overlay
 pub mod Places
 pub mod Proc
+pub mod Packing
+pub mod Sig
+pub mod File
+pub mod Row

@@ -2,12 +2,16 @@
 //! spelling, and a record of which one word is changed is no record any more.
 #![tactic(auto)]
 
+mod file;
 mod head;
 mod intent;
 mod overlay;
 mod overlay_laws;
 mod places;
 mod proc;
+mod packing;
+mod row;
+mod sig;
 mod spelling;
 #[cfg(test)]
 mod overlay_tests;
@@ -19,3 +23,7 @@ pub use ow_base::WordSource;
 pub use places::{RecordId, address, records_lie_apart};
 pub use head::{HeadRec, heads_are_spelled_once};
 pub use proc::{ProcRec, processes_are_spelled_once};
+pub use file::{FileRec, files_are_spelled_once};
+pub use head::{HeadRec, heads_are_spelled_once};
+pub use row::{RowRec, rows_are_spelled_once};
+pub use sig::{SigRec, signals_are_spelled_once};

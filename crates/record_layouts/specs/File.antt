@@ -1,0 +1,34 @@
+-- The record of a file.
+use Rattle.std.specs.Prelude.{◌≡◌, ℕ, ◌<◌, ◌≤◌, List, length, take, drop, slice_index, All}
+use Rattle.ow_base.specs.World.{IsName}
+use Rattle.ow_base.specs.Seals.{AreWords, IsSealed}
+use Rattle.record_layouts.specs.Spelling.{AreZero}
+use Rattle.record_layouts.specs.Packing.{ArePacked}
+use Rattle.record_layouts.specs.declared.file.FileRec.{FileRec}
+
+-- the fields are in their ranges, and those that say nothing are 0: all of them in state 0, and in state 1, where
+-- there is a file, the bytes behind its name and the data sectors behind those of its pages
+pub record FitsFile (file : FileRec) : Type 0 where
+  pub state : file.state ≤ 1
+  pub none : file.state ≡ 0 → (file.name_len ≡ 0) × (file.size ≡ 0) × (file.kept ≡ 0)
+  pub named : file.state ≡ 1 → IsName (take file.name_len file.name)
+  pub name_length : file.name_len ≤ 24
+  pub past_name : AreZero file.name file.name_len 24
+  pub kept : file.kept ≤ 64
+  pub sectors : All (λ sector. sector < 2048) (take file.kept file.sectors)
+  pub past_kept : AreZero file.sectors file.kept 64
+
+-- the words are the record of this file
+pub record IsFile (words : List ℕ) (file : FileRec) : Type 0 where
+  pub long : length words ≡ 96
+  pub all_words : AreWords words
+  pub kind : slice_index words 0 ≡ 0x46494c45
+  pub state : slice_index words 1 ≡ file.state
+  pub name_length : slice_index words 2 ≡ file.name_len
+  pub name : ArePacked (take 6 (drop 3 words)) file.name
+  pub size : slice_index words 9 ≡ file.size
+  pub kept : slice_index words 10 ≡ file.kept
+  pub sectors : take 64 (drop 11 words) ≡ file.sectors
+  pub unused : AreZero words 75 95
+  pub fits : FitsFile file
+  pub seal : IsSealed words

@@ -1,0 +1,118 @@
+ghost use Rattle.std.specs.Prelude.{◌≡◌, ◌≢◌, ℕ, ◌^◌, ◌<◌, ◌≤◌, ◌↔◌, List, length, take, All, slice_index, slice_set, IsTrue, IfSome, IfNone};
+ghost use Rattle.record_layouts.specs.declared.file.FileRec.{FileRec};
+ghost use Rattle.ow_base.specs.World.{IsName};
+ghost use Rattle.record_layouts.specs.Spelling.{AreZero};
+ghost use Rattle.record_layouts.specs.File.{FitsFile, IsFile};
+
+use crate::packing::{pack, unpack};
+use ow_base::{is_sealed, put_seal};
+use crate::spelling::are_zero;
+
+const KIND: u32 = 0x4649_4c45;
+
+// The most bytes of a name, the most pages of a file, and the most data sectors of a disk.
+const NAME_BYTES: u32 = 24;
+const PAGES: u32 = 64;
+const SECTORS: u32 = 2048;
+
+/// A file: its name in the first `name_len` bytes, its size in bytes, and the data sectors of its `kept` pages.
+/// In state 0 there is no file, and in state 1 there is one.
+#[derive(Clone, Copy, Debug, PartialEq, Eq)]
+pub struct FileRec {
+    pub state: u32,
+    pub name_len: u32,
+    pub name: [u8; 24],
+    pub size: u32,
+    pub kept: u32,
+    pub sectors: [u32; 64],
+}
+
+impl FileRec {
+    /// The words of the record.
+    pub fn to_words(&self) -> [u32; 96]
+        requires { FitsFile self.now }
+        ensures { IsFile result self.now }
+    {
+        let mut words = [0; 96];
+        words[0] = KIND;
+        words[1] = self.state;
+        words[2] = self.name_len;
+        words[9] = self.size;
+        words[10] = self.kept;
+        words[11..75].copy_from_slice(&self.sectors);
+        pack(&mut words[3..9], &self.name);
+        put_seal(&mut words);
+        words
+    }
+
+    /// The file that these words are a record of. `None` comes where they are none: of another kind, with a field
+    /// outside its range, with a word that is to be 0, or with a wrong seal.
+    pub fn from_words(words: &[u32; 96]) -> Option<FileRec>
+        ensures found { IfSome result (λ r. IsFile words.now r) }
+        ensures none { IfNone result ((r : FileRec) → IsFile words.now r → ⊥) }
+    {
+        if words[0] != KIND || !are_zero(words, 75, 95) || !is_sealed(words) {
+            return None;
+        }
+        let mut name = [0; 24];
+        unpack(&words[3..9], &mut name);
+        let mut sectors = [0; 64];
+        sectors.copy_from_slice(&words[11..75]);
+        let file = FileRec {
+            state: words[1],
+            name_len: words[2],
+            name,
+            size: words[9],
+            kept: words[10],
+            sectors,
+        };
+        if file.fits() { Some(file) } else { None }
+    }
+
+    fn fits(&self) -> bool
+        ensures { IsTrue result ↔ FitsFile self.now }
+    {
+        self.name_fits() && self.sectors_fit()
+    }
+
+    // There is no file, or one that has a name.
+    fn name_fits(&self) -> bool
+        ensures { IsTrue result ↔ (self.now.state ≤ 1) × (self.now.state ≡ 0 → (self.now.name_len ≡ 0) × (self.now.size ≡ 0) × (self.now.kept ≡ 0)) × (self.now.state ≡ 1 → IsName (take self.now.name_len self.now.name)) × (self.now.name_len ≤ 24) × AreZero self.now.name self.now.name_len 24 }
+    {
+        if self.name_len > NAME_BYTES {
+            return false;
+        }
+        let (name, rest) = self.name.split_at(self.name_len as usize);
+        let told = match self.state {
+            0 => name.is_empty() && self.size == 0 && self.kept == 0,
+            1 => is_name(name),
+            _ => false,
+        };
+        told && rest.iter().all(|byte| *byte == 0)
+    }
+
+    fn sectors_fit(&self) -> bool
+        ensures { IsTrue result ↔ (self.now.kept ≤ 64) × All (λ sector. sector < 2048) (take self.now.kept self.now.sectors) × AreZero self.now.sectors self.now.kept 64 }
+    {
+        if self.kept > PAGES {
+            return false;
+        }
+        let kept = self.kept as usize;
+        self.sectors[..kept].iter().all(|sector| *sector < SECTORS) && are_zero(&self.sectors, kept, 64)
+    }
+}
+
+/// A law; the function does nothing. Words are the record of one file at most, a file has one record, and with
+/// one word changed to another it is the record of no file.
+pub const fn files_are_spelled_once()
+    ensures value { (words : List ℕ) (a b : FileRec) → IsFile words a → IsFile words b → a ≡ b }
+    ensures words { (some others : List ℕ) (file : FileRec) → IsFile some file → IsFile others file → some ≡ others }
+    ensures changed { (words : List ℕ) (file : FileRec) → IsFile words file → (i value : ℕ) → i < 96 → value < 2 ^ 32
+        → value ≢ slice_index words i → (other : FileRec) → IsFile (slice_set words i value) other → ⊥ }
+{}
+
+fn is_name(bytes: &[u8]) -> bool
+    ensures { IsTrue result ↔ IsName bytes.now }
+{
+    !bytes.is_empty() && bytes.len() <= 24 && bytes.iter().all(|byte| byte.is_ascii_graphic())
+}
