@@ -6,14 +6,16 @@
 ghost use Rattle.std.specs.Prelude.{◌≡◌, ℕ, ◌+◌, ◌-◌, ◌*◌, ◌^◌, ◌<◌, ◌≤◌, true, IfSome, IfNone, None, is_some};
 ghost use Rattle.record_layouts.specs.Overlay.{EndsOpen, HasArea, StandsFirst, area_at, gate_of, intent_seal, is_within, laid, lies_in, may_change, open_ranges, or_none, overlay, ranges_in, values_end, words_from};
 
+use crate::places::FRAME;
 use ow_base::{WordSource, seal};
 
-// The words of a frame, and the frames of an area.
-const FRAME: u32 = 1024;
+// The frames of an area.
 const FRAMES: u32 = 64;
 
-// The word of an area that is the gate, and the first word of the payload behind it.
+// The word of an area that is the gate.
 const GATE: u32 = 16;
+
+// The first word of the payload, which lies behind the gate.
 const PAYLOAD: u32 = 17;
 
 // The most words that a payload has.
@@ -22,9 +24,26 @@ const MOST_PAYLOAD: u32 = 1006;
 // The words of a range before those that it spells.
 const RANGE_HEAD: u32 = 3;
 
-// The word that holds the seal, and the word with which the seal begins.
+// The word of an area that holds the seal of the gate and the payload.
 const SEAL: u32 = 1023;
+
+// The word with which that seal begins.
 const INTENT_KIND: u32 = 0x494e_5445;
+
+// The head, which an intent may change.
+const HEAD: Span = Span { begin: 0, end: 16 };
+
+// The frames of processes, signals, descriptions, files, caches, terminals and rows, which it may change too.
+const RECORDS: Span = Span {
+    begin: FRAME,
+    end: 10 * FRAME,
+};
+
+// The frame of exit records, the last that it may change.
+const EXITS: Span = Span {
+    begin: 11 * FRAME,
+    end: 12 * FRAME,
+};
 
 /// What the intent block of an area says.
 #[derive(Clone, Copy, Debug, PartialEq, Eq)]
@@ -57,17 +76,6 @@ pub(crate) struct Change {
     pub(crate) span: Span,
     pub(crate) values: u32,
 }
-
-// What an intent may change: the head, the records in frames 1 to 9, and those in frame 11.
-const HEAD: Span = Span { begin: 0, end: 16 };
-const RECORDS: Span = Span {
-    begin: FRAME,
-    end: 10 * FRAME,
-};
-const EXITS: Span = Span {
-    begin: 11 * FRAME,
-    end: 12 * FRAME,
-};
 
 impl Change {
     // The number behind the last new value.

@@ -7,23 +7,22 @@ mod head;
 mod intent;
 mod overlay;
 mod overlay_laws;
+#[cfg(test)]
+mod overlay_tests;
+mod packing;
 mod places;
 mod proc;
-mod packing;
 mod row;
 mod sig;
 mod spelling;
-#[cfg(test)]
-mod overlay_tests;
 
+pub use file::{FileRec, files_are_spelled_once};
+pub use head::{HeadRec, heads_are_spelled_once};
 pub use intent::Gate;
 pub use overlay::{gate, overlaid};
 pub use overlay_laws::{intents_are_read, other_words_stay, the_block_decides};
 pub use ow_base::WordSource;
 pub use places::{RecordId, address, records_lie_apart};
-pub use head::{HeadRec, heads_are_spelled_once};
 pub use proc::{ProcRec, processes_are_spelled_once};
-pub use file::{FileRec, files_are_spelled_once};
-pub use head::{HeadRec, heads_are_spelled_once};
 pub use row::{RowRec, rows_are_spelled_once};
 pub use sig::{SigRec, signals_are_spelled_once};

@@ -19,7 +19,7 @@ struct Memory {
 impl Memory {
     // Word n of the area is 0x7000_0000 + n, but for the gate, the payload and the seal.
     fn new(alloc: Global, gate: u32, payload: &[u32], seal: u32) -> Result<Memory, AllocError> {
-        let mut words = vec![in alloc; 0x7000_0000; WORDS]?;
+        let mut words = vec![in alloc; 0x7000_0000u32; WORDS]?;
         for (number, word) in words.iter_mut().enumerate() {
             *word = word.wrapping_add(number as u32);
         }
@@ -79,7 +79,12 @@ const CASES: [Case; 28] = [
         payload: &[0, 2, 2, 0xa000_000a, 0xb000_000b],
         seal: 0xe852_9c4e,
         want: Gate::Open,
-        reads: &[(0, 1, 0x7000_0001), (0, 2, 0xa000_000a), (0, 3, 0xb000_000b), (0, 4, 0x7000_0004)],
+        reads: &[
+            (0, 1, 0x7000_0001),
+            (0, 2, 0xa000_000a),
+            (0, 3, 0xb000_000b),
+            (0, 4, 0x7000_0004),
+        ],
     },
     Case {
         name: "the last word of the head",
@@ -111,7 +116,11 @@ const CASES: [Case; 28] = [
         payload: &[1, 0, 2, 0xa000_000a, 0xb000_000b],
         seal: 0xe843_9c4e,
         want: Gate::Open,
-        reads: &[(1, 0, 0xa000_000a), (1, 1, 0xb000_000b), (1, 2, 0x7000_0402)],
+        reads: &[
+            (1, 0, 0xa000_000a),
+            (1, 1, 0xb000_000b),
+            (1, 2, 0x7000_0402),
+        ],
     },
     Case {
         name: "the last of the records",
@@ -119,7 +128,11 @@ const CASES: [Case; 28] = [
         payload: &[9, 1023, 1, 0xa000_000a],
         seal: 0x2ad9_e082,
         want: Gate::Open,
-        reads: &[(9, 1022, 0x7000_27fe), (9, 1023, 0xa000_000a), (10, 0, 0x7000_2800)],
+        reads: &[
+            (9, 1022, 0x7000_27fe),
+            (9, 1023, 0xa000_000a),
+            (10, 0, 0x7000_2800),
+        ],
     },
     Case {
         name: "past the records",
@@ -132,10 +145,25 @@ const CASES: [Case; 28] = [
     Case {
         name: "across the end of a frame",
         gate: 7,
-        payload: &[4, 1022, 4, 0xa000_000a, 0xb000_000b, 0xc000_000c, 0xd000_000d],
+        payload: &[
+            4,
+            1022,
+            4,
+            0xa000_000a,
+            0xb000_000b,
+            0xc000_000c,
+            0xd000_000d,
+        ],
         seal: 0x6211_3a22,
         want: Gate::Open,
-        reads: &[(4, 1021, 0x7000_13fd), (4, 1022, 0xa000_000a), (4, 1023, 0xb000_000b), (5, 0, 0xc000_000c), (5, 1, 0xd000_000d), (5, 2, 0x7000_1402)],
+        reads: &[
+            (4, 1021, 0x7000_13fd),
+            (4, 1022, 0xa000_000a),
+            (4, 1023, 0xb000_000b),
+            (5, 0, 0xc000_000c),
+            (5, 1, 0xd000_000d),
+            (5, 2, 0x7000_1402),
+        ],
     },
     Case {
         name: "owner words",
@@ -212,18 +240,56 @@ const CASES: [Case; 28] = [
     Case {
         name: "the later on top",
         gate: 16,
-        payload: &[2, 0, 3, 0xa000_000a, 0xa000_000a, 0xa000_000a, 2, 1, 3, 0xb000_000b, 0xb000_000b, 0xb000_000b, 2, 2, 1, 0xc000_000c],
+        payload: &[
+            2,
+            0,
+            3,
+            0xa000_000a,
+            0xa000_000a,
+            0xa000_000a,
+            2,
+            1,
+            3,
+            0xb000_000b,
+            0xb000_000b,
+            0xb000_000b,
+            2,
+            2,
+            1,
+            0xc000_000c,
+        ],
         seal: 0x1c19_f0fa,
         want: Gate::Open,
-        reads: &[(2, 0, 0xa000_000a), (2, 1, 0xb000_000b), (2, 2, 0xc000_000c), (2, 3, 0xb000_000b), (2, 4, 0x7000_0804)],
+        reads: &[
+            (2, 0, 0xa000_000a),
+            (2, 1, 0xb000_000b),
+            (2, 2, 0xc000_000c),
+            (2, 3, 0xb000_000b),
+            (2, 4, 0x7000_0804),
+        ],
     },
     Case {
         name: "the later not longer",
         gate: 10,
-        payload: &[2, 1, 1, 0xb000_000b, 2, 0, 3, 0xa000_000a, 0xa000_000a, 0xa000_000a],
+        payload: &[
+            2,
+            1,
+            1,
+            0xb000_000b,
+            2,
+            0,
+            3,
+            0xa000_000a,
+            0xa000_000a,
+            0xa000_000a,
+        ],
         seal: 0x6a8d_4dfe,
         want: Gate::Open,
-        reads: &[(2, 0, 0xa000_000a), (2, 1, 0xa000_000a), (2, 2, 0xa000_000a)],
+        reads: &[
+            (2, 0, 0xa000_000a),
+            (2, 1, 0xa000_000a),
+            (2, 2, 0xa000_000a),
+        ],
     },
     Case {
         name: "one word",
@@ -317,7 +383,12 @@ fn the_longest_payload(rt: HostRuntime) -> Result<(), Fail> {
     }
     let memory = Memory::new(rt.alloc(), 1006, &payload, 0x2d64_1c8c)?;
     assert_eq!(rt; gate(&memory, BASE), Gate::Open);
-    for (word, value) in [(4, 0x7000_0804), (5, 0x100), (1007, 0x100 + 1002), (1008, 0x7000_0bf0)] {
+    for (word, value) in [
+        (4, 0x7000_0804),
+        (5, 0x100),
+        (1007, 0x100 + 1002),
+        (1008, 0x7000_0bf0),
+    ] {
         assert_eq!(rt; overlaid(&memory, BASE, 2, word), value);
     }
     let memory = Memory::new(rt.alloc(), 1007, &payload, 0xac83_9985)?;

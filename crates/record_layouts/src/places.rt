@@ -4,7 +4,8 @@ ghost use Rattle.record_layouts.specs.Overlay.{may_change};
 ghost use Rattle.record_layouts.specs.Places.{AreApart, IsRecordId, first_word, length_of};
 ghost use Rattle.record_layouts.specs.declared.places.RecordId.{RecordId};
 
-const FRAME: u32 = 1024;
+/// The words of a frame.
+pub(crate) const FRAME: u32 = 1024;
 
 /// Which record of an area.
 ///

@@ -12,11 +12,11 @@ returns-then-end-place-lt-RANGE_HEAD-clause-none g c there = ranges_in-short _ c
 pub returns-then-frame-ge-FRAMES-clause-none : goal.returns-then-frame-ge-FRAMES-clause-none
 returns-then-frame-ge-FRAMES-clause-none g c there =
     let other : is_range c.word-frame.result c.word-first.result c.word-count.result (c.args.end - (c.args.place + 3)) ≡ false =
-        elim c.then-frame-ge-FRAMES.branch [
-          | then-frame-ge-FRAMES-via-then-frame-ge-FRAMES w ↦ grind (arith, nat_tests)
-          | then-frame-ge-FRAMES-via-else-frame-ge-FRAMES+then-first-ge-FRAME w ↦ grind (arith, nat_tests)
-          | then-frame-ge-FRAMES-via-else-frame-ge-FRAMES+else-first-ge-FRAME+then-count-end w ↦ grind (arith, nat_tests)
-        ] in
+    elim c.then-frame-ge-FRAMES.branch [
+      | then-frame-ge-FRAMES-via-then-frame-ge-FRAMES w ↦ grind (arith, nat_tests)
+      | then-frame-ge-FRAMES-via-else-frame-ge-FRAMES+then-first-ge-FRAME w ↦ grind (arith, nat_tests)
+      | then-frame-ge-FRAMES-via-else-frame-ge-FRAMES+else-first-ge-FRAME+then-count-end w ↦ grind (arith, nat_tests)
+    ] in
     ranges_in-none _ c.args.place c.args.end c.word-frame.result c.word-first.result c.word-count.result c.word-frame.ensures c.word-first.ensures c.word-count.ensures (omega arith) other
 
 pub returns-then-may_change-clause-found : goal.returns-then-may_change-clause-found

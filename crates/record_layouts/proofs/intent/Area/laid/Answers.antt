@@ -11,10 +11,10 @@ loop-change-preserved g c =
     let next = is_some-first area c.loop-change.place c.args.end c.in-Some.change first c.loop-change.invariant.ranges in
     let step = laid-first area c.loop-change.place c.args.end c.in-Some.change first c.loop-change.invariant.ranges c.args.number c.loop-change.word in
     let word : c.if-contains.word ≡ (if lies_in c.in-Some.change.span.begin c.in-Some.change.span.end c.args.number then area (c.in-Some.change.values + (c.args.number - c.in-Some.change.span.begin)) else c.loop-change.word) =
-        elim c.if-contains.branch [
-          | then-contains w ↦ rw (sym c.contains.ensures ∙ w.if-contains.true) (w.word-is ∙ w.word-word-then-contains.ensures)
-          | else-contains w ↦ rw (sym c.contains.ensures ∙ w.if-contains.false) w.word-is
-        ] in
+    elim c.if-contains.branch [
+      | then-contains w ↦ rw (sym c.contains.ensures ∙ w.if-contains.true) (w.word-is ∙ w.word-word-then-contains.ensures)
+      | else-contains w ↦ rw (sym c.contains.ensures ∙ w.if-contains.false) w.word-is
+    ] in
     record {
       begun = omega (arith, first.values);
       inside = omega (arith, first.inside);
