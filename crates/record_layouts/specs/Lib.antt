@@ -8,3 +8,7 @@ pub mod Packing
 pub mod Sig
 pub mod File
 pub mod Row
+pub mod Desc
+pub mod Cache
+pub mod Exit
+pub mod Term

@@ -3,6 +3,9 @@
 #![tactic(auto)]
 
 mod file;
+mod cache;
+mod desc;
+mod exit;
 mod head;
 mod intent;
 mod overlay;
@@ -15,6 +18,7 @@ mod proc;
 mod row;
 mod sig;
 mod spelling;
+mod term;
 
 pub use file::{FileRec, files_are_spelled_once};
 pub use head::{HeadRec, heads_are_spelled_once};
@@ -26,3 +30,8 @@ pub use places::{RecordId, address, records_lie_apart};
 pub use proc::{ProcRec, processes_are_spelled_once};
 pub use row::{RowRec, rows_are_spelled_once};
 pub use sig::{SigRec, signals_are_spelled_once};
+pub use cache::{CacheRec, cache_entries_are_spelled_once};
+pub use desc::{DescRec, descriptions_are_spelled_once};
+pub use exit::{ExitRec, exits_are_spelled_once};
+pub use head::{HeadRec, heads_are_spelled_once};
+pub use term::{TermRec, terminals_are_spelled_once};

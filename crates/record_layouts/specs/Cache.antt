@@ -1,0 +1,33 @@
+-- The record of an entry of the page cache.
+use Rattle.std.specs.Prelude.{◌≡◌, ℕ, ◌≤◌, ◌⊎◌, List, length, slice_index}
+use Rattle.ow_base.specs.Seals.{AreWords, IsSealed}
+use Rattle.record_layouts.specs.Spelling.{AreZero}
+use Rattle.record_layouts.specs.declared.cache.CacheRec.{CacheRec}
+
+-- the entry holds no page
+pub record IsEmptyCache (entry : CacheRec) : Type 0 where
+  pub state : entry.state ≡ 0
+  pub file : entry.file ≡ 0
+  pub page : entry.page ≡ 0
+
+-- the entry holds a page, which is clean or dirty
+pub record IsFullCache (entry : CacheRec) : Type 0 where
+  pub state : (entry.state ≡ 1) ⊎ (entry.state ≡ 2)
+  pub file : entry.file ≤ 31
+  pub page : entry.page ≤ 63
+
+-- the fields are in their ranges, and 0 where the state does not use them
+abbrev pub FitsCache : CacheRec → Type 0
+FitsCache entry = IsEmptyCache entry ⊎ IsFullCache entry
+
+-- the words are the record of this value
+pub record IsCache (words : List ℕ) (entry : CacheRec) : Type 0 where
+  pub long : length words ≡ 8
+  pub all_words : AreWords words
+  pub kind : slice_index words 0 ≡ 0x43414348
+  pub state : slice_index words 1 ≡ entry.state
+  pub file : slice_index words 2 ≡ entry.file
+  pub page : slice_index words 3 ≡ entry.page
+  pub unused : AreZero words 4 7
+  pub fits : FitsCache entry
+  pub seal : IsSealed words
