@@ -2,7 +2,7 @@
 use Rattle.std.specs.Prelude.{◌≡◌, ℕ, ◌+◌, ◌*◌, ◌≤◌, ◌⊎◌, List, length, take, drop, slice_index, EachIndex}
 use Rattle.ow_base.specs.Seals.{AreWords, IsSealed}
 use Rattle.ow_base.specs.declared.machine.Bank.{Bank}
-use Rattle.record_layouts.specs.Spelling.{AreZero}
+use Rattle.record_layouts.specs.Spelling.{AreZero, IsStatus}
 use Rattle.record_layouts.specs.declared.proc.ProcRec.{ProcRec}
 
 -- the address where the heap begins: on the page behind the code and the data
@@ -12,10 +12,6 @@ heap_start code_pages data_pages = 0x10000 + 4096 * (code_pages + data_pages)
 -- one of these numbers, the last included
 abbrev pub IsWithin : (first last n : ℕ) → Type 0
 IsWithin first last n = (first ≤ n) × (n ≤ last)
-
--- how a process can end: by its exit code, a signal, a fault's cause, or the mask of what it lost
-abbrev pub IsStatus : ℕ → Type 0
-IsStatus status = (status ≤ 0xff) ⊎ (IsWithin 0x101 0x10f status ⊎ (IsWithin 0x200 0x20f status ⊎ IsWithin 0x300 0x30f status))
 
 -- all registers and the pc are 0
 pub record IsBlankBank (bank : Bank) : Type 0 where

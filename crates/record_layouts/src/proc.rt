@@ -2,9 +2,9 @@
 
 ghost use Rattle.std.specs.Prelude.{◌≡◌, ◌≢◌, ℕ, ◌+◌, ◌^◌, ◌<◌, ◌≤◌, ◌↔◌, List, length, take, drop, slice_index, slice_set, EachIndex, IsTrue, IfSome, IfNone};
 ghost use Rattle.record_layouts.specs.declared.proc.ProcRec.{ProcRec};
-ghost use Rattle.record_layouts.specs.Proc.{heap_start, IsStatus, IsBlankBank, FitsLive, IsOver, FitsFree, FitsEnded, FitsProc, IsBankAt, IsFront, IsProc};
+ghost use Rattle.record_layouts.specs.Proc.{heap_start, IsBlankBank, FitsLive, IsOver, FitsFree, FitsEnded, FitsProc, IsBankAt, IsFront, IsProc};
 
-use crate::spelling::are_zero;
+use crate::spelling::{are_zero, is_status};
 use ow_base::{Bank, Regs, is_sealed, put_seal};
 
 // The word that begins the record of a process.
@@ -127,13 +127,6 @@ fn bank_at(words: &[u32], at: usize) -> Bank
         pc: words[at + 31],
         regs: regs_at(words, at),
     }
-}
-
-// One of the ways in which a process can end.
-fn is_status(status: u32) -> bool
-    ensures { IsTrue result ↔ IsStatus status }
-{
-    matches!(status, 0..=0xff | 0x101..=0x10f | 0x200..=0x20f | 0x300..=0x30f)
 }
 
 // The address where the heap begins.
