@@ -1,11 +1,12 @@
 -- How the record of a file is written.
-use Rattle.std.proofs.Common.{◌≡◌, ℕ, ◌<◌, ◌*◌, ◌∙◌, ap, sym, refl, arith, List, [], ◌∷◌, ◌++◌, length, slice_index, slice_set, take, drop, get_or, replicate}
+use Rattle.std.proofs.Common.{◌≡◌, ℕ, Bool, false, IsTrue, ◌∙◌, ap, sym, refl, arith, List, [], ◌∷◌, ◌++◌, length, slice_index, slice_set, take, drop, replicate}
 use Rattle.std.proofs.lemmas.Grind.{common_steps}
 use Rattle.ow_base.specs.Seals.{AreWords, seal_of, sealed}
 use Rattle.record_layouts.specs.declared.file.FileRec.{FileRec}
 use Rattle.record_layouts.specs.Packing.{ArePacked}
 use Rattle.record_layouts.specs.File.{IsFile, FitsFile}
 use Rattle.record_layouts.proofs.Records.{zeros}
+use Rattle.record_layouts.proofs.PackedBytes.{one_reading}
 use Rattle.record_layouts.proofs.Laying.{front, behind, place_behind, set_behind, seal_put, seal_at}
 
 -- the words behind the name of a record whose last word is this one
@@ -26,7 +27,7 @@ module _ (state name_len : ℕ) (name : List ℕ) (size kept : ℕ) (sectors : L
   last_set last value =
       ap (λ rest. 0x46494c45 ∷ state ∷ name_len ∷ rest) (set_behind name (behind_name size kept sectors last) 6 86 value named)
       ∙ ap (λ rest. 0x46494c45 ∷ state ∷ name_len ∷ (name ++ (size ∷ kept ∷ rest)))
-          (set_behind sectors (replicate 20 0 ++ last ∷ []) 64 20 value full)
+      (set_behind sectors (replicate 20 0 ++ last ∷ []) 64 20 value full)
 
   name_bytes : (last : ℕ) → take 6 (drop 3 (file_words state name_len name size kept sectors last)) ≡ name
   name_bytes last = front name (behind_name size kept sectors last) 6 named
@@ -61,7 +62,7 @@ written file name sectors words named packed full same fits put are =
     let value = seal_of unsealed in
     let after = file_words file.state file.name_len name file.size file.kept sectors value in
     let laid : words ≡ after =
-        put ∙ seal_at unsealed 95 long_before ∙ last_set file.state file.name_len name file.size file.kept sectors named full 0 value in
+    put ∙ seal_at unsealed 95 long_before ∙ last_set file.state file.name_len name file.size file.kept sectors named full 0 value in
     let seal = seal_put unsealed (omega arith) in
     let bytes = name_bytes file.state file.name_len name file.size file.kept sectors named full value in
     rw laid (record {
@@ -78,3 +79,23 @@ written file name sectors words named packed full same fits put are =
       fits = fits;
       seal = rw (← put, laid) at seal;
     })
+
+-- the fields of the words of a file are the file, so where they do not fit there is none
+abbrev pub read_fields : (words name sectors : List ℕ) → FileRec
+read_fields words name sectors = record {
+  state = slice_index words 1;
+  name_len = slice_index words 2;
+  name = name;
+  size = slice_index words 9;
+  kept = slice_index words 10;
+  sectors = sectors;
+}
+
+pub unread : (words name sectors : List ℕ) (fits : Bool) → ArePacked (take 6 (drop 3 words)) name → sectors ≡ take 64 (drop 11 words)
+    → (FitsFile (read_fields words name sectors) → IsTrue fits) → fits ≡ false → (file : FileRec) → IsFile words file → ⊥
+unread words name sectors fits packed part told unfit file is =
+    let same : file ≡ read_fields words name sectors =
+    one_file file (read_fields words name sectors) (sym is.state) (sym is.name_length) (one_reading is.name packed) (sym is.size) (sym is.kept)
+    (sym is.sectors ∙ sym part) in
+    let yes : IsTrue fits = told (rw same at is.fits) in
+    cc

@@ -1,7 +1,7 @@
 -- Lists that are laid one behind the other, and their seals.
-use Rattle.std.proofs.Common.{◌≡◌, ℕ, ◌+◌, ◌-◌, ◌<◌, ◌≤◌, ◌∙◌, ap, sym, refl, arith, List, length, slice_index, slice_set, take, drop, get_or, ◌++◌}
+use Rattle.std.proofs.Common.{◌≡◌, ℕ, ◌+◌, ◌-◌, ◌≤◌, ap, arith, List, length, slice_set, take, drop, get_or, ◌++◌}
 use Rattle.std.proofs.lemmas.Grind.{common_steps}
-use Rattle.std.proofs.lemmas.List.{length-set, get_or-set_same, get_or-set_other, set-append_right, take-append-le}
+use Rattle.std.proofs.lemmas.List.{length-set, get_or-set_same, get_or-set_other, set-append_right}
 use Rattle.std.proofs.Math.Seq.{drop-append-add}
 use Rattle.ow_base.specs.Seals.{IsSealed, seal_of, sealed}
 

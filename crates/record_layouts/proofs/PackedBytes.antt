@@ -1,5 +1,5 @@
 -- Bytes packed into words are packed in one way.
-use Rattle.std.proofs.Common.{◌≡◌, ℕ, ◌+◌, ◌*◌, ◌/◌, ◌%◌, ◌^◌, ◌<◌, ◌∙◌, ap, sym, arith, List, length, get_or, slice_index, take, drop}
+use Rattle.std.proofs.Common.{◌≡◌, ℕ, ◌+◌, ◌*◌, ◌/◌, ◌%◌, ◌^◌, ◌<◌, ◌∙◌, sym, arith, List, length, get_or, take, drop}
 use Rattle.std.proofs.lemmas.Grind.{common_steps}
 use Rattle.std.proofs.lemmas.List.{ext_get_or}
 use Rattle.ow_base.specs.Words.{byte_of_words}
@@ -10,7 +10,7 @@ use Rattle.record_layouts.specs.Packing.{ArePacked}
 pub one_reading : {words some others : List ℕ} → ArePacked words some → ArePacked words others → some ≡ others
 one_reading {words = words} {some = some} {others = others} is is_too =
     ext_get_or 0 some others (is.filled ∙ sym is_too.filled)
-        (λ j less. is.each j less ∙ sym (is_too.each j (omega (arith, is.filled, is_too.filled))))
+    (λ j less. is.each j less ∙ sym (is_too.each j (omega (arith, is.filled, is_too.filled))))
 
 -- a word is its four bytes
 word_of : (word : ℕ) → word < 2 ^ 32 → word ≡ word % 256 + 256 * (word / 256 % 256) + 65536 * (word / 65536 % 256) + 16777216 * (word / 16777216 % 256)
@@ -40,4 +40,4 @@ part_fits words first count fits k = grind (arith, common_steps, fits (first + k
 pub one_packing : {some others bytes : List ℕ} → ArePacked some bytes → ArePacked others bytes → AreWords some → AreWords others → some ≡ others
 one_packing {some = some} {others = others} {bytes = bytes} is is_too fits fits_too =
     ext_get_or 0 some others (omega (arith, is.filled, is_too.filled))
-        (λ k less. same_word some others bytes is is_too k less (fits k) (fits_too k))
+    (λ k less. same_word some others bytes is is_too k less (fits k) (fits_too k))

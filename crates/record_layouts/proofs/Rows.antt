@@ -1,5 +1,5 @@
 -- How the record of a row is written.
-use Rattle.std.proofs.Common.{◌≡◌, ℕ, ◌<◌, ◌*◌, ◌∙◌, ap, sym, refl, arith, List, [], ◌∷◌, ◌++◌, length, slice_index, slice_set, take, drop, get_or, replicate}
+use Rattle.std.proofs.Common.{◌≡◌, ℕ, ◌∙◌, ap, refl, arith, List, [], ◌∷◌, ◌++◌, length, slice_set, take}
 use Rattle.std.proofs.lemmas.Grind.{common_steps}
 use Rattle.ow_base.specs.Seals.{AreWords, seal_of, sealed}
 use Rattle.record_layouts.specs.declared.row.RowRec.{RowRec}

@@ -6,12 +6,16 @@ use Rattle.record_layouts.specs.Spelling.{AreZero}
 use Rattle.record_layouts.specs.Packing.{ArePacked}
 use Rattle.record_layouts.specs.declared.file.FileRec.{FileRec}
 
--- the fields are in their ranges, and those that say nothing are 0: all of them in state 0, and in state 1, where
--- there is a file, the bytes behind its name and the data sectors behind those of its pages
-pub record FitsFile (file : FileRec) : Type 0 where
-  pub state : file.state ≤ 1
+-- the state says whether there is a file: where there is none nothing is said, and a file has a name
+pub record FitsState (file : FileRec) : Type 0 where
+  pub known : file.state ≤ 1
   pub none : file.state ≡ 0 → (file.name_len ≡ 0) × (file.size ≡ 0) × (file.kept ≡ 0)
   pub named : file.state ≡ 1 → IsName (take file.name_len file.name)
+
+-- the fields are in their ranges, and the bytes behind the name and the data sectors behind those of the pages
+-- are 0
+pub record FitsFile (file : FileRec) : Type 0 where
+  pub state : FitsState file
   pub name_length : file.name_len ≤ 24
   pub past_name : AreZero file.name file.name_len 24
   pub kept : file.kept ≤ 64

@@ -1,18 +1,20 @@
-ghost use Rattle.std.specs.Prelude.{◌≡◌, ◌≢◌, ℕ, ◌^◌, ◌<◌, ◌≤◌, ◌↔◌, List, length, take, All, slice_index, slice_set, IsTrue, IfSome, IfNone};
+ghost use Rattle.std.specs.Prelude.{◌≡◌, ◌≢◌, ℕ, ◌^◌, ◌<◌, ◌≤◌, ◌↔◌, List, length, take, All, EachIndex, slice_index, slice_set, IsTrue, IfSome, IfNone};
 ghost use Rattle.record_layouts.specs.declared.file.FileRec.{FileRec};
 ghost use Rattle.ow_base.specs.World.{IsName};
 ghost use Rattle.record_layouts.specs.Spelling.{AreZero};
-ghost use Rattle.record_layouts.specs.File.{FitsFile, IsFile};
+ghost use Rattle.record_layouts.specs.File.{FitsState, FitsFile, IsFile};
 
 use crate::packing::{pack, unpack};
-use ow_base::{is_sealed, put_seal};
 use crate::spelling::are_zero;
+use ow_base::{is_sealed, put_seal};
 
 const KIND: u32 = 0x4649_4c45;
 
 // The most bytes of a name, the most pages of a file, and the most data sectors of a disk.
 const NAME_BYTES: u32 = 24;
+
 const PAGES: u32 = 64;
+
 const SECTORS: u32 = 2048;
 
 /// A file: its name in the first `name_len` bytes, its size in bytes, and the data sectors of its `kept` pages.
@@ -72,33 +74,39 @@ impl FileRec {
     fn fits(&self) -> bool
         ensures { IsTrue result ↔ FitsFile self.now }
     {
-        self.name_fits() && self.sectors_fit()
+        self.name_len <= NAME_BYTES
+            && self.state_fits()
+            && self.name_ends()
+            && self.kept <= PAGES
+            && self.sectors_fit()
+            && are_zero(&self.sectors, self.kept as usize, 64)
     }
 
-    // There is no file, or one that has a name.
-    fn name_fits(&self) -> bool
-        ensures { IsTrue result ↔ (self.now.state ≤ 1) × (self.now.state ≡ 0 → (self.now.name_len ≡ 0) × (self.now.size ≡ 0) × (self.now.kept ≡ 0)) × (self.now.state ≡ 1 → IsName (take self.now.name_len self.now.name)) × (self.now.name_len ≤ 24) × AreZero self.now.name self.now.name_len 24 }
+    fn state_fits(&self) -> bool
+        requires { self.now.name_len ≤ 24 }
+        ensures { IsTrue result ↔ FitsState self.now }
     {
-        if self.name_len > NAME_BYTES {
-            return false;
-        }
-        let (name, rest) = self.name.split_at(self.name_len as usize);
-        let told = match self.state {
-            0 => name.is_empty() && self.size == 0 && self.kept == 0,
-            1 => is_name(name),
+        match self.state {
+            0 => self.name_len == 0 && self.size == 0 && self.kept == 0,
+            1 => is_name(&self.name[..self.name_len as usize]),
             _ => false,
-        };
-        told && rest.iter().all(|byte| *byte == 0)
+        }
+    }
+
+    fn name_ends(&self) -> bool
+        requires { self.now.name_len ≤ 24 }
+        ensures { IsTrue result ↔ AreZero self.now.name self.now.name_len 24 }
+    {
+        are_empty(&self.name[self.name_len as usize..])
     }
 
     fn sectors_fit(&self) -> bool
-        ensures { IsTrue result ↔ (self.now.kept ≤ 64) × All (λ sector. sector < 2048) (take self.now.kept self.now.sectors) × AreZero self.now.sectors self.now.kept 64 }
+        requires { self.now.kept ≤ 64 }
+        ensures { IsTrue result ↔ All (λ sector. sector < 2048) (take self.now.kept self.now.sectors) }
     {
-        if self.kept > PAGES {
-            return false;
-        }
-        let kept = self.kept as usize;
-        self.sectors[..kept].iter().all(|sector| *sector < SECTORS) && are_zero(&self.sectors, kept, 64)
+        self.sectors[..self.kept as usize]
+            .iter()
+            .all(|sector| *sector < SECTORS)
     }
 }
 
@@ -111,8 +119,15 @@ pub const fn files_are_spelled_once()
         → value ≢ slice_index words i → (other : FileRec) → IsFile (slice_set words i value) other → ⊥ }
 {}
 
+// The bytes are a name: 1 to 24 of them, each 33 to 126.
 fn is_name(bytes: &[u8]) -> bool
     ensures { IsTrue result ↔ IsName bytes.now }
 {
     !bytes.is_empty() && bytes.len() <= 24 && bytes.iter().all(|byte| byte.is_ascii_graphic())
+}
+
+fn are_empty(bytes: &[u8]) -> bool
+    ensures { IsTrue result ↔ EachIndex bytes.now (λ k. slice_index bytes.now k ≡ 0) }
+{
+    bytes.iter().all(|byte| *byte == 0)
 }

@@ -2,10 +2,10 @@
 //! spelling, and a record of which one word is changed is no record any more.
 #![tactic(auto)]
 
-mod file;
 mod cache;
 mod desc;
 mod exit;
+mod file;
 mod head;
 mod intent;
 mod overlay;
@@ -13,6 +13,7 @@ mod overlay_laws;
 #[cfg(test)]
 mod overlay_tests;
 mod packing;
+mod patch;
 mod places;
 mod proc;
 mod row;
@@ -21,11 +22,11 @@ mod spelling;
 mod term;
 
 pub use file::{FileRec, files_are_spelled_once};
-pub use head::{HeadRec, heads_are_spelled_once};
 pub use intent::Gate;
 pub use overlay::{gate, overlaid};
 pub use overlay_laws::{intents_are_read, other_words_stay, the_block_decides};
 pub use ow_base::WordSource;
+pub use patch::{AnyRec, Patch, PatchItem};
 pub use places::{RecordId, address, records_lie_apart};
 pub use proc::{ProcRec, processes_are_spelled_once};
 pub use row::{RowRec, rows_are_spelled_once};

@@ -1,4 +1,4 @@
-use Rattle.std.proofs.Common.{◌≡◌, ◌∙◌, sym, refl, arith}
+use Rattle.std.proofs.Common.{◌∙◌, sym, refl, arith}
 use Rattle.record_layouts.proofs.Records.{broken, nothing, word, gap, block, one_record}
 use Rattle.record_layouts.proofs.PackedBytes.{one_reading, one_packing, part_fits}
 use Rattle.record_layouts.proofs.Files.{one_file}
@@ -7,7 +7,7 @@ use Rattle.record_layouts.proofs.file.files_are_spelled_once.Goals as goal
 pub returns-clause-value : goal.returns-clause-value
 returns-clause-value c words a b is is_too =
     one_file a b (sym is.state ∙ is_too.state) (sym is.name_length ∙ is_too.name_length) (one_reading is.name is_too.name)
-        (sym is.size ∙ is_too.size) (sym is.kept ∙ is_too.kept) (sym is.sectors ∙ is_too.sectors)
+    (sym is.size ∙ is_too.size) (sym is.kept ∙ is_too.kept) (sym is.sectors ∙ is_too.sectors)
 
 pub returns-clause-words : goal.returns-clause-words
 returns-clause-words c some others file is is_too =

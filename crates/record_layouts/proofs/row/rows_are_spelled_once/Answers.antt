@@ -1,4 +1,4 @@
-use Rattle.std.proofs.Common.{◌≡◌, ◌∙◌, sym, refl, arith, take, drop}
+use Rattle.std.proofs.Common.{◌≡◌, ◌∙◌, sym, refl, arith}
 use Rattle.record_layouts.proofs.Records.{broken, nothing, word, block, one_record}
 use Rattle.record_layouts.proofs.PackedBytes.{one_reading, one_packing, part_fits}
 use Rattle.record_layouts.proofs.row.rows_are_spelled_once.Goals as goal
