@@ -3,6 +3,7 @@ pub mod Spelling
 pub mod Head
 pub mod Overlay
 pub mod Places
+pub mod Patch
 pub mod Proc
 pub mod Packing
 pub mod Sig
