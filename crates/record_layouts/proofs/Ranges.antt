@@ -180,10 +180,17 @@ module _ (area : Area) (place end : ℕ) where
           | inr beside ↦ rw beside refl
         ])
 
-    pub laid-first : (number word : ℕ) → laid (or_none (ranges_in (words_from area place (end - place)))) number word
+    laid-first : (number word : ℕ) → laid (or_none (ranges_in (words_from area place (end - place)))) number word
         ≡ laid (or_none (ranges_in (words_from area (values_end change) (end - values_end change)))) number
         (if lies_in change.span.begin change.span.end number then area (change.values + (number - change.span.begin)) else word)
     laid-first number word =
         ap (λ o. laid (or_none o) number word) first.ranges
         ∙ laid-before (range_at area place (change.span.end - change.span.begin)) _ number word is_some-first
         ∙ ap (λ (w : ℕ). laid (or_none (ranges_in (words_from area (values_end change) (end - values_end change)))) number w) (range_word number word)
+
+    -- so the other ranges make of the word that it becomes what all make of the word before
+    pub laid-rest : (number word new whole : ℕ)
+        → new ≡ (if lies_in change.span.begin change.span.end number then area (change.values + (number - change.span.begin)) else word)
+        → laid (or_none (ranges_in (words_from area place (end - place)))) number word ≡ whole
+        → laid (or_none (ranges_in (words_from area (values_end change) (end - values_end change)))) number new ≡ whole
+    laid-rest number word new whole becomes all = rw becomes (sym (laid-first number word) ∙ all)

@@ -10,8 +10,6 @@ mod head;
 mod intent;
 mod overlay;
 mod overlay_laws;
-#[cfg(test)]
-mod overlay_tests;
 mod packing;
 mod patch;
 mod places;

@@ -27,3 +27,6 @@ pub fn overlaid<W: WordSource>(source: &W, base: u32, frame: u32, word: u32) -> 
 {
     Area { source, base }.overlaid(FRAME * frame + word)
 }
+
+#[cfg(test)]
+mod tests;

@@ -76,3 +76,6 @@ impl Patch {
         self.items.push(PatchItem { id, rec });
     }
 }
+
+#[cfg(test)]
+mod tests;
