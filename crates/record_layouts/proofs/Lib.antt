@@ -1,5 +1,5 @@
--- Lemmas on records of any kind, on lists that are laid one behind the other, on bytes in words, and on how the
--- records with lists are written.
+-- Lemmas on records of any kind, on lists that are laid one behind the other, on bytes in words, on how the records
+-- with lists are written, and on the ranges of an intent.
 pub mod Records
 pub mod Parts
 pub mod Processes
@@ -8,3 +8,5 @@ pub mod PackedBytes
 pub mod Signals
 pub mod Rows
 pub mod Files
+pub mod Ranges
+pub mod Intents

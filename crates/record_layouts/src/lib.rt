@@ -1,5 +1,6 @@
 //! The records of the kernel: which words of memory stand for which value, and back. Each value has one
-//! spelling, and a record of which one word is changed is no record any more.
+//! spelling, and a record of which one word is changed is no record any more. The definitions of the Unix
+//! stand here too, in `specs/`.
 #![tactic(auto)]
 
 mod cache;
@@ -7,8 +8,13 @@ mod desc;
 mod exit;
 mod file;
 mod head;
-mod proc;
+mod intent;
+mod overlay;
+mod overlay_laws;
 mod packing;
+mod patch;
+mod places;
+mod proc;
 mod row;
 mod sig;
 mod spelling;
@@ -19,6 +25,12 @@ pub use desc::{DescRec, descriptions_are_spelled_once};
 pub use exit::{ExitRec, exits_are_spelled_once};
 pub use file::{FileRec, files_are_spelled_once};
 pub use head::{HeadRec, heads_are_spelled_once};
+pub use intent::Gate;
+pub use overlay::{gate, overlaid};
+pub use overlay_laws::{intents_are_read, other_words_stay, the_block_decides};
+pub use ow_base::WordSource;
+pub use patch::{AnyRec, Patch, PatchItem};
+pub use places::{RecordId, address, records_lie_apart};
 pub use proc::{ProcRec, processes_are_spelled_once};
 pub use row::{RowRec, rows_are_spelled_once};
 pub use sig::{SigRec, signals_are_spelled_once};

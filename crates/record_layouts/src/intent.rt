@@ -1,0 +1,251 @@
+//! The intent block of an area.
+//!
+//! An intent changes words of several records at once. Its payload is a list of ranges: of each the frame and the place
+//! of its first word, how many words there are, and what they become. The gate tells how many words of payload there
+//! are; the block's last word is the seal of the gate and of these.
+ghost use Rattle.std.specs.Prelude.{◌≡◌, ℕ, ◌+◌, ◌-◌, ◌*◌, ◌^◌, ◌<◌, ◌≤◌, true, IfSome, IfNone, None, is_some};
+ghost use Rattle.record_layouts.specs.Overlay.{EndsOpen, HasArea, StandsFirst, area_at, gate_of, intent_seal, is_within, laid, lies_in, may_change, open_ranges, or_none, overlay, ranges_in, values_end, words_from};
+
+use crate::places::FRAME;
+use ow_base::{WordSource, seal};
+
+// The frames of an area.
+const FRAMES: u32 = 64;
+
+// The word of an area that is the gate.
+const GATE: u32 = 16;
+
+// The first word of the payload, which lies behind the gate.
+const PAYLOAD: u32 = 17;
+
+// The most words that a payload has.
+const MOST_PAYLOAD: u32 = 1006;
+
+// The words of a range before those that it spells.
+const RANGE_HEAD: u32 = 3;
+
+// The word of an area that holds the seal of the gate and the payload.
+const SEAL: u32 = 1023;
+
+// The word with which that seal begins.
+const INTENT_KIND: u32 = 0x494e_5445;
+
+// The head, which an intent may change.
+const HEAD: Span = Span { begin: 0, end: 16 };
+
+// The frames of processes, signals, descriptions, files, caches, terminals and rows, which it may change too.
+const RECORDS: Span = Span {
+    begin: FRAME,
+    end: 10 * FRAME,
+};
+
+// The frame of exit records, the last that it may change.
+const EXITS: Span = Span {
+    begin: 11 * FRAME,
+    end: 12 * FRAME,
+};
+
+/// What the intent block of an area says.
+#[derive(Clone, Copy, Debug, PartialEq, Eq)]
+pub enum Gate {
+    /// No intent is open.
+    Closed,
+    /// A valid intent is open: the area's words are read with its ranges laid over them.
+    Open,
+    /// The gate is not 0, and no valid intent is open: the area cannot be read.
+    Broken,
+}
+
+/// The words of a kernel's area, in the 64 frames from `base` on. Word w of frame f has the number 1,024 f + w.
+#[derive(Drop)]
+pub(crate) struct Area<'a, W> {
+    pub(crate) source: &'a W,
+    pub(crate) base: u32,
+}
+
+// Words of an area that lie one behind the other, from `begin` on and before `end`.
+#[derive(Clone, Copy)]
+pub(crate) struct Span {
+    pub(crate) begin: u32,
+    pub(crate) end: u32,
+}
+
+// Words of the area that an intent changes, and the number of the first of their new values.
+#[derive(Clone, Copy)]
+pub(crate) struct Change {
+    pub(crate) span: Span,
+    pub(crate) values: u32,
+}
+
+impl Change {
+    // The number behind the last new value.
+    fn values_end(self) -> u32
+        requires order { self.span.begin ≤ self.span.end }
+        requires fits { self.values + (self.span.end - self.span.begin) < 2 ^ 32 }
+        ensures { result ≡ values_end self }
+    {
+        self.values + (self.span.end - self.span.begin)
+    }
+}
+
+impl Span {
+    fn contains(self, number: u32) -> bool
+        ensures { result ≡ lies_in self.begin self.end number }
+    {
+        self.begin <= number && number < self.end
+    }
+
+    // Whether the other begins in this one, and ends by its end.
+    fn encloses(self, other: Span) -> bool
+        ensures { result ≡ is_within self.begin self.end other.begin other.end }
+    {
+        self.contains(other.begin) && other.end <= self.end
+    }
+
+    // Whether an intent may change these words.
+    fn may_change(self) -> bool
+        ensures { result ≡ may_change self.begin self.end }
+    {
+        HEAD.encloses(self) || RECORDS.encloses(self) || EXITS.encloses(self)
+    }
+}
+
+impl<W: WordSource> Area<'_, W> {
+    pub(crate) fn word(&self, number: u32) -> u32
+        requires area { HasArea (W.words self.now.source.now) self.now.base }
+        requires number { number < 65536 }
+        ensures { result ≡ area_at (W.words self.now.source.now) self.now.base number }
+    {
+        self.source
+            .load(self.base + number / FRAME, number % FRAME)
+            .unwrap_or(0)
+    }
+
+    /// What the intent block says.
+    #[tactic(auto, unfolding(crate::specs::Overlay::open_ranges))]
+    pub(crate) fn gate(&self) -> Gate
+        requires { HasArea (W.words self.now.source.now) self.now.base }
+        ensures { result ≡ gate_of (area_at (W.words self.now.source.now) self.now.base) }
+    {
+        if self.word(GATE) == 0 {
+            Gate::Closed
+        } else if self.open_end().is_some() {
+            Gate::Open
+        } else {
+            Gate::Broken
+        }
+    }
+
+    /// The word of this number, with a valid open intent laid over it.
+    #[tactic(auto, unfolding(crate::specs::Overlay::overlay, crate::specs::Overlay::laid))]
+    pub(crate) fn overlaid(&self, number: u32) -> u32
+        requires area { HasArea (W.words self.now.source.now) self.now.base }
+        requires number { number < 65536 }
+        ensures { result ≡ overlay (area_at (W.words self.now.source.now) self.now.base) number }
+    {
+        match self.open_end() {
+            Some(end) => self.laid(end, number),
+            None => self.word(number),
+        }
+    }
+
+    // Where the payload of the open intent ends, if this is valid.
+    #[tactic(auto, unfolding(crate::specs::Overlay::open_ranges))]
+    fn open_end(&self) -> Option<u32>
+        requires { HasArea (W.words self.now.source.now) self.now.base }
+        ensures found { IfSome result (EndsOpen (area_at (W.words self.now.source.now) self.now.base)) }
+        ensures none { IfNone result (open_ranges (area_at (W.words self.now.source.now) self.now.base) ≡ None) }
+    {
+        let count = self.word(GATE);
+        if count == 0 || count > MOST_PAYLOAD {
+            return None;
+        }
+        let end = PAYLOAD + count;
+        if self.word(SEAL) == self.seal(end) && self.holds_ranges(end) {
+            Some(end)
+        } else {
+            None
+        }
+    }
+
+    // The seal that belongs to the words from the gate up to `end`.
+    fn seal(&self, end: u32) -> u32
+        requires area { HasArea (W.words self.now.source.now) self.now.base }
+        requires begin { 17 ≤ end }
+        requires end { end ≤ 1023 }
+        ensures { result ≡ intent_seal (area_at (W.words self.now.source.now) self.now.base) end }
+    {
+        let mut so_far = INTENT_KIND;
+        for number in GATE..end {
+            so_far = seal(so_far, &[self.word(number)]);
+        }
+        so_far
+    }
+
+    // Whether the payload up to `end` is a list of ranges.
+    fn holds_ranges(&self, end: u32) -> bool
+        requires area { HasArea (W.words self.now.source.now) self.now.base }
+        requires begin { 17 ≤ end }
+        requires end { end ≤ 1023 }
+        ensures { result ≡ is_some (ranges_in (words_from (area_at (W.words self.now.source.now) self.now.base) 17 (end - 17))) }
+    {
+        let mut place = PAYLOAD;
+        while place < end {
+            match self.change(place, end) {
+                Some(change) => place = change.values_end(),
+                None => return false,
+            }
+        }
+        true
+    }
+
+    // What the ranges of the payload up to `end` make of the word of this number.
+    fn laid(&self, end: u32, number: u32) -> u32
+        requires area { HasArea (W.words self.now.source.now) self.now.base }
+        requires begin { 17 ≤ end }
+        requires end { end ≤ 1023 }
+        requires number { number < 65536 }
+        requires ranges { is_some (ranges_in (words_from (area_at (W.words self.now.source.now) self.now.base) 17 (end - 17))) ≡ true }
+        ensures { result ≡ laid (or_none (ranges_in (words_from (area_at (W.words self.now.source.now) self.now.base) 17 (end - 17)))) number (area_at (W.words self.now.source.now) self.now.base number) }
+    {
+        let mut word = self.word(number);
+        let mut place = PAYLOAD;
+        while let Some(change) = self.change(place, end) {
+            if change.span.contains(number) {
+                word = self.word(change.values + (number - change.span.begin));
+            }
+            place = change.values_end();
+        }
+        word
+    }
+
+    // The change that the payload from `place` up to `end` begins with, if a range of words that may change stands there.
+    fn change(&self, place: u32, end: u32) -> Option<Change>
+        requires area { HasArea (W.words self.now.source.now) self.now.base }
+        requires place { place ≤ end }
+        requires end { end ≤ 1023 }
+        ensures found { IfSome result (StandsFirst (area_at (W.words self.now.source.now) self.now.base) place end) }
+        ensures none { IfNone result (place < end → ranges_in (words_from (area_at (W.words self.now.source.now) self.now.base) place (end - place)) ≡ None) }
+    {
+        if end - place < RANGE_HEAD {
+            return None;
+        }
+        let frame = self.word(place);
+        let first = self.word(place + 1);
+        let count = self.word(place + 2);
+        let values = place + RANGE_HEAD;
+        if frame >= FRAMES || first >= FRAME || count > end - values {
+            return None;
+        }
+        let begin = FRAME * frame + first;
+        let span = Span {
+            begin,
+            end: begin + count,
+        };
+        if span.may_change() {
+            Some(Change { span, values })
+        } else {
+            None
+        }
+    }
+}
