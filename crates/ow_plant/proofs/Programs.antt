@@ -1,15 +1,17 @@
 -- A program whose page tables map distinct frames steps on the plant as on its pages.
-use Rattle.std.proofs.Common.{◌≡◌, ℕ, ◌^◌, ◌<◌, List, Option, Some, refl, arith}
+use Rattle.std.proofs.Common.{◌≡◌, ℕ, ◌^◌, ◌<◌, Bool, true, false, List, Option, Some, refl, ap, MatchBool, arith}
 use Rattle.std.proofs.lemmas.Bool.Decides.{nat_tests}
 use Rattle.ow_base.specs.Pages.{page_space}
 use Rattle.ow_base.specs.Sv32.{WordMap, pages_by}
-use Rattle.ow_base.specs.UserStep.{user_step}
+use Rattle.ow_base.specs.UserStep.{Stepped, Next, Call, Faulted, user_step}
 use Rattle.ow_base.proofs.Simulations.{Follows}
 use Rattle.phys_memory.specs.Memory.{MemoryParts, IsSized, frame_count, words_of, with_word}
 use Rattle.phys_memory.proofs.Words.{words_of-set, IsSized-set}
 use Rattle.sv32_tables.specs.Spaces.{Mapping, IsMapped, satp_of}
 use Rattle.sv32_tables.proofs.Spaces.{IsSpaceOf, SetsWords, steps_follow}
-use Rattle.ow_plant.specs.State.{Seen, seen_space}
+use Rattle.ow_plant.specs.State.{PlantState, Seen, seen_space, StepsAs, TakesUserTurn}
+use Rattle.ow_plant.specs.declared.UserEnd.{UserEnd}
+use Rattle.ow_plant.specs.declared.UserEnd.TheVariants as end
 
 -- the words, the root and the setting of a word, and that memory has its size
 abbrev pub words_seen : Seen → WordMap
@@ -42,3 +44,16 @@ pub steps_on_pages : (user_frames : ℕ) (m : Seen) (regs : List ℕ) (pc root :
 unfolding seen_space
 steps_on_pages user_frames m regs pc root map sized mapped on small =
     steps_follow words_seen root_seen with_seen (IsSeenSized user_frames) (seen_sets user_frames map) m regs pc sized mapped on small
+
+-- a turn leaves the plant armed
+armed_by : (old new : PlantState) (result : UserEnd) (made : Stepped Seen) → StepsAs old new result made → new.armed ≡ old.armed
+armed_by old new result (Next regs pc seen) m = ap (λ (s : PlantState). s.armed) m.1
+armed_by old new result Call m = ap (λ (s : PlantState). s.armed) m.1
+armed_by old new result (Faulted fault) m = ap (λ (s : PlantState). s.armed) m.1
+
+armed_or : (old new : PlantState) (result : UserEnd) (going : Bool) (made : Stepped Seen) → MatchBool going (StepsAs old new result made) ((result ≡ end.Slice) × (new ≡ old)) → new.armed ≡ old.armed
+armed_or old new result true made m = armed_by old new result made m
+armed_or old new result false made m = ap (λ (s : PlantState). s.armed) m.1
+
+pub armed_after : (old new : PlantState) (result : UserEnd) → TakesUserTurn old new result → new.armed ≡ old.armed
+armed_after old new result taken = armed_or old new result _ _ taken

@@ -1,7 +1,10 @@
+ghost use Rattle.std.specs.Prelude.{◌≡◌, ◌<◌, true, IfOk};
+
 use crate::UserEnd;
 use crate::displays::Display;
 use crate::machine::Plant;
 use ow_base::{Bank, Came, Fault, Regs, Shape, WordSource};
+use std::alloc::{AllocError, Global};
 use std::test::Fail;
 
 /// Bytes, written so often, where the cursor is then, and a byte that is seen at a row and a column.
@@ -135,10 +138,8 @@ const SHAPE: Shape = Shape {
     budget: 10,
 };
 
-/// A place of a word: its frame and where it is in it.
-type Place = (u32, u32);
-
-/// The frames of a root table, of the table of the first pages, and of those pages.
+/// The frames of a root table, of the table of the first pages, and of those pages: page 0 is code and page 1
+/// is values.
 const ROOT: u32 = 17;
 
 const TABLE: u32 = 18;
@@ -147,31 +148,58 @@ const CODE: u32 = 129;
 
 const VALUES: u32 = 130;
 
-/// Page 0 is code and page 1 is values.
-const TABLES: [(Place, u32); 3] = [
-    ((ROOT, 0), TABLE * 1024 + 1),
-    ((TABLE, 0), CODE * 1024 + 0x5b),
-    ((TABLE, 1), VALUES * 1024 + 0xd7),
-];
+/// Sets a word, where its frame is there.
+#[tactic(auto, unfolding(phys_memory::specs::Memory::words_of))]
+fn set(plant: &mut Plant, frame: u32, word: u32, value: u32) -> bool
+    requires armed { plant.old.armed ≡ true }
+    requires word { word < 1024 }
+    ensures armed { plant.new.armed ≡ true }
+{
+    match WordSource::load(plant, frame, word) {
+        Some(_) => plant.store(frame, word, value).is_ok(),
+        None => false,
+    }
+}
 
-fn store_all(plant: &mut Plant, words: &[(Place, u32)]) -> bool {
-    words.iter().all(|((frame, word), value)| plant.store(*frame, *word, *value).is_ok())
+/// A machine whose tables map page 0, which begins with this instruction, and page 1, which begins with this
+/// value.
+fn with_tables(alloc: Global, code: u32, value: u32) -> Result<Plant, AllocError>
+    ensures { IfOk result (λ plant. plant.armed ≡ true) }
+{
+    let mut plant = Plant::new(alloc);
+    plant.arm(alloc, SHAPE, &[], &[], &[])?;
+    let _ = set(&mut plant, ROOT, 0, TABLE * 1024 + 1);
+    let _ = set(&mut plant, TABLE, 0, CODE * 1024 + 0x5b);
+    let _ = set(&mut plant, TABLE, 1, VALUES * 1024 + 0xd7);
+    let _ = set(&mut plant, CODE, 0, code);
+    let _ = set(&mut plant, VALUES, 0, value);
+    Ok(plant)
+}
+
+/// A turn of the program from this pc on.
+#[tactic(auto, using(crate::proofs::Programs::armed_after))]
+fn turn(plant: &mut Plant, bank: &Bank) -> UserEnd
+    requires { plant.old.armed ≡ true }
+    ensures { plant.new.armed ≡ true }
+{
+    plant.to_user(1, bank, ROOT);
+    plant.user_step()
 }
 
 #[test]
 fn words_are_where_they_were_stored(rt: HostRuntime) -> Result<(), Fail> {
-    let mut plant = Plant::new(rt.alloc());
-    assert_eq!(rt; WordSource::load(&plant, 0, 0), None);
-    plant.arm(rt.alloc(), SHAPE, &[], &[], &[])?;
     let last = 2 * (128 + 16);
     for (frame, word) in [(0, 0), (1, 1023), (144, 7), (145, 0), (last, 1023)] {
-        assert_eq!(rt; plant.load(frame, word), 0);
-        assert!(rt; plant.store(frame, word, frame + 1).is_ok());
-        assert_eq!(rt; plant.load(frame, word), frame + 1);
-        assert_eq!(rt; plant.load(frame, (word + 1) % 1024), 0);
+        let mut plant = Plant::new(rt.alloc());
+        assert_eq!(rt; WordSource::load(&plant, frame, word), None);
+        plant.arm(rt.alloc(), SHAPE, &[], &[], &[])?;
+        assert_eq!(rt; WordSource::load(&plant, frame, word), Some(0));
+        assert!(rt; set(&mut plant, frame, word, 7));
+        assert_eq!(rt; WordSource::load(&plant, frame, word), Some(7));
+        assert_eq!(rt; WordSource::load(&plant, frame, (word + 1) % 1024), Some(0));
+        assert_eq!(rt; WordSource::load(&plant, last + 1, word), None);
+        assert!(rt; !set(&mut plant, last + 1, word, 7));
     }
-    assert_eq!(rt; WordSource::load(&plant, last, 1023), Some(last + 1));
-    assert_eq!(rt; WordSource::load(&plant, last + 1, 0), None);
     Ok(())
 }
 
@@ -189,7 +217,6 @@ fn writes_on_terminals(rt: HostRuntime) -> Result<(), Fail> {
 
 /// An instruction at address 0, with x1 being an address, what it comes to, and what a0 and a word of the
 /// second page are after it.
-#[derive(Drop)]
 struct Step {
     word: u32,
     address: u32,
@@ -198,108 +225,202 @@ struct Step {
     value: u32,
 }
 
-fn a_step(word: u32, address: u32, end: UserEnd, a0: u32, value: u32) -> Step {
-    Step {
-        word,
-        address,
-        end,
-        a0,
-        value,
-    }
-}
-
-fn fault(cause: u32, value: u32) -> UserEnd {
-    UserEnd::Fault(Fault { cause, value })
-}
-
 /// The word of the second page that the instructions read and write, and x2, which they store.
 const BEFORE: u32 = 0x8483_8281;
 
 const STORED: u32 = 0x0102_0304;
 
+const STEPS: [Step; 14] = [
+    // lw a0, 0(x1)
+    Step {
+        word: 0x0000_a503,
+        address: 4096,
+        end: UserEnd::Next,
+        a0: BEFORE,
+        value: BEFORE,
+    },
+    // lbu a0, 0(x1)
+    Step {
+        word: 0x0000_c503,
+        address: 4097,
+        end: UserEnd::Next,
+        a0: 0x82,
+        value: BEFORE,
+    },
+    // lb a0, 0(x1)
+    Step {
+        word: 0x0000_8503,
+        address: 4098,
+        end: UserEnd::Next,
+        a0: 0xffff_ff83,
+        value: BEFORE,
+    },
+    // lhu a0, 0(x1)
+    Step {
+        word: 0x0000_d503,
+        address: 4098,
+        end: UserEnd::Next,
+        a0: 0x8483,
+        value: BEFORE,
+    },
+    // sw x2, 0(x1)
+    Step {
+        word: 0x0020_a023,
+        address: 4096,
+        end: UserEnd::Next,
+        a0: 0,
+        value: STORED,
+    },
+    // sb x2, 0(x1)
+    Step {
+        word: 0x0020_8023,
+        address: 4098,
+        end: UserEnd::Next,
+        a0: 0,
+        value: 0x8404_8281,
+    },
+    // sh x2, 0(x1)
+    Step {
+        word: 0x0020_9023,
+        address: 4098,
+        end: UserEnd::Next,
+        a0: 0,
+        value: 0x0304_8281,
+    },
+    Step {
+        word: 0x0020_a023,
+        address: 0,
+        end: UserEnd::Fault(Fault {
+            cause: 15,
+            value: 0,
+        }),
+        a0: 0,
+        value: BEFORE,
+    },
+    Step {
+        word: 0x0020_a023,
+        address: 8192,
+        end: UserEnd::Fault(Fault {
+            cause: 15,
+            value: 8192,
+        }),
+        a0: 0,
+        value: BEFORE,
+    },
+    Step {
+        word: 0x0000_a503,
+        address: 8192,
+        end: UserEnd::Fault(Fault {
+            cause: 13,
+            value: 8192,
+        }),
+        a0: 0,
+        value: BEFORE,
+    },
+    Step {
+        word: 0x0000_a503,
+        address: 4098,
+        end: UserEnd::Fault(Fault {
+            cause: 4,
+            value: 4098,
+        }),
+        a0: 0,
+        value: BEFORE,
+    },
+    Step {
+        word: 0x0020_9023,
+        address: 4097,
+        end: UserEnd::Fault(Fault {
+            cause: 6,
+            value: 4097,
+        }),
+        a0: 0,
+        value: BEFORE,
+    },
+    // jalr x0, 0(x1)
+    Step {
+        word: 0x0000_8067,
+        address: 4096,
+        end: UserEnd::Next,
+        a0: 0,
+        value: BEFORE,
+    },
+    // ecall
+    Step {
+        word: 0x0000_0073,
+        address: 0,
+        end: UserEnd::Call,
+        a0: 0,
+        value: BEFORE,
+    },
+];
+
 #[test]
 fn steps_through_tables(rt: HostRuntime) -> Result<(), Fail> {
-    let steps = [
-        a_step(0x0000_a503, 4096, UserEnd::Next, BEFORE, BEFORE), // lw a0, 0(x1)
-        a_step(0x0000_c503, 4097, UserEnd::Next, 0x82, BEFORE), // lbu a0, 0(x1)
-        a_step(0x0000_8503, 4098, UserEnd::Next, 0xffff_ff83, BEFORE), // lb a0, 0(x1)
-        a_step(0x0000_d503, 4098, UserEnd::Next, 0x8483, BEFORE), // lhu a0, 0(x1)
-        a_step(0x0020_a023, 4096, UserEnd::Next, 0, STORED), // sw x2, 0(x1)
-        a_step(0x0020_8023, 4098, UserEnd::Next, 0, 0x8404_8281), // sb x2, 0(x1)
-        a_step(0x0020_9023, 4098, UserEnd::Next, 0, 0x0304_8281), // sh x2, 0(x1)
-        a_step(0x0020_a023, 0, fault(15, 0), 0, BEFORE),
-        a_step(0x0020_a023, 8192, fault(15, 8192), 0, BEFORE),
-        a_step(0x0000_a503, 8192, fault(13, 8192), 0, BEFORE),
-        a_step(0x0000_a503, 4098, fault(4, 4098), 0, BEFORE),
-        a_step(0x0020_9023, 4097, fault(6, 4097), 0, BEFORE),
-        a_step(0x0000_8067, 4096, UserEnd::Next, 0, BEFORE), // jalr x0, 0(x1)
-        a_step(0x0000_0073, 0, UserEnd::Call, 0, BEFORE), // ecall
-    ];
-    for case in &steps {
-        let mut plant = Plant::new(rt.alloc());
-        plant.arm(rt.alloc(), SHAPE, &[], &[], &[])?;
-        assert!(rt; store_all(&mut plant, &TABLES));
-        let words = [((CODE, 0), case.word), ((VALUES, 0), BEFORE)];
-        assert!(rt; store_all(&mut plant, &words));
+    for case in &STEPS {
+        let mut plant = with_tables(rt.alloc(), case.word, BEFORE)?;
         let mut regs = Regs::new();
         regs.set(1, case.address);
         regs.set(2, STORED);
-        plant.to_user(1, &Bank { pc: 0, regs }, ROOT);
-        assert_eq!(rt; plant.user_step(), case.end, "{:08x}", case.word);
+        assert_eq!(rt;
+            turn(&mut plant, &Bank { pc: 0, regs }),
+            case.end,
+            "{:08x}",
+            case.word
+        );
         assert_eq!(rt; plant.bank().regs.get(10), case.a0, "{:08x}", case.word);
-        assert_eq!(rt; plant.load(VALUES, 0), case.value, "{:08x}", case.word);
+        assert_eq!(rt;
+            WordSource::load(&plant, VALUES, 0),
+            Some(case.value),
+            "{:08x}",
+            case.word
+        );
     }
     Ok(())
 }
 
-/// A word of the tables is changed, and a program at this pc steps: a page fault of the fetch, or an access
-/// fault where a frame is not there.
+/// A word of the tables that is changed, by frame and place, where the program is, and the cause of the fault of
+/// its next step: a page fault of the fetch, or an access fault where a frame is not there.
+const BROKEN: [(u32, u32, u32, u32, u32); 7] = [
+    (ROOT, 0, 0, 0, 12),
+    (ROOT, 0, 400 * 1024 + 1, 0, 1),
+    (ROOT, 0, ROOT * 1024 + 1, 0, 12),
+    (TABLE, 0, 0, 0, 12),
+    (TABLE, 0, 0xffff_fc5b, 0, 1),
+    (TABLE, 0, CODE * 1024 + 0xd7, 0, 12),
+    (TABLE, 1, VALUES * 1024 + 0xd7, 4096, 12),
+];
+
 #[test]
 fn tables_may_lead_anywhere(rt: HostRuntime) -> Result<(), Fail> {
-    let broken = [
-        ((ROOT, 0), 0, 0, fault(12, 0)),
-        ((ROOT, 0), 400 * 1024 + 1, 0, fault(1, 0)),
-        ((ROOT, 0), ROOT * 1024 + 1, 0, fault(12, 0)),
-        ((TABLE, 0), 0, 0, fault(12, 0)),
-        ((TABLE, 0), 0xffff_fc5b, 0, fault(1, 0)),
-        ((TABLE, 0), CODE * 1024 + 0xd7, 0, fault(12, 0)),
-        ((TABLE, 1), VALUES * 1024 + 0xd7, 4096, fault(12, 4096)),
-    ];
-    for (place, entry, pc, end) in broken {
-        let mut plant = Plant::new(rt.alloc());
-        plant.arm(rt.alloc(), SHAPE, &[], &[], &[])?;
-        assert!(rt; store_all(&mut plant, &TABLES));
-        assert!(rt; store_all(&mut plant, &[(place, entry)]));
+    for (frame, word, entry, pc, cause) in BROKEN {
+        let mut plant = with_tables(rt.alloc(), 0x0000_0013, BEFORE)?;
+        assert!(rt; word < 1024 && set(&mut plant, frame, word, entry));
         let start = Bank {
             pc,
             regs: Regs::new(),
         };
-        plant.to_user(1, &start, ROOT);
-        assert_eq!(rt; plant.user_step(), end, "{entry:08x}");
+        let fault = Fault { cause, value: pc };
+        assert_eq!(rt;
+            turn(&mut plant, &start),
+            UserEnd::Fault(fault),
+            "{entry:08x}"
+        );
     }
     Ok(())
 }
 
 #[test]
 fn counts_turns(rt: HostRuntime) -> Result<(), Fail> {
-    let mut plant = Plant::new(rt.alloc());
-    plant.arm(rt.alloc(), SHAPE, &[], &[], &[])?;
-    assert!(rt; store_all(&mut plant, &TABLES));
-    // addi a0, x0, 7 and ecall
-    let code = [((CODE, 0), 0x0070_0513), ((CODE, 1), 0x0000_0073)];
-    assert!(rt; store_all(&mut plant, &code));
-    plant.fence();
+    // addi a0, x0, 7
+    let mut plant = with_tables(rt.alloc(), 0x0070_0513, 0)?;
     let start = Bank {
         pc: 0,
         regs: Regs::new(),
     };
-    plant.to_user(1, &start, ROOT);
-    assert_eq!(rt; plant.user_step(), UserEnd::Next);
-    assert_eq!(rt; plant.user_step(), UserEnd::Slice);
+    assert_eq!(rt; turn(&mut plant, &start), UserEnd::Next);
     let bank = *plant.bank();
     assert_eq!(rt; (bank.pc, bank.regs.get(10)), (4, 7));
-    plant.to_user(1, &bank, ROOT);
-    assert_eq!(rt; plant.user_step(), UserEnd::Call);
     assert_eq!(rt; (plant.steps(), plant.traps(), plant.user_pid()), (1, 0, 1));
     plant.enter(Came::Call, 1);
     assert_eq!(rt;
@@ -307,6 +428,7 @@ fn counts_turns(rt: HostRuntime) -> Result<(), Fail> {
         (2, 1, false)
     );
     plant.enter(Came::Closing, 0);
+    plant.fence();
     assert_eq!(rt; (plant.steps(), plant.traps()), (2, 2));
     assert!(rt; plant.leave().is_ok());
     Ok(())
