@@ -1,10 +1,11 @@
 ghost use Rattle.std.specs.Prelude.{◌≡◌, ◌≢◌, ℕ, ◌^◌, ◌<◌, ◌≤◌, ◌↔◌, List, length, slice_index, slice_set, IsTrue};
 ghost use Rattle.ow_base.specs.Seals.{seal_from, AreWords, IsSealed, sealed};
 
-/// The seal of a record: its kind word and the words behind it but the last, which holds the seal.
+/// The seal of a record with this kind word and, behind it, these words. The seal stands behind them and is
+/// none of them.
 ///
-/// It begins as the kind word. Each word turns it left by five bits and is then joined to it by an
-/// exclusive or. So a change of one word of a record changes either its seal or the word that holds it.
+/// It begins as the kind word. Each of the words turns it left by five bits and is then joined to it by an
+/// exclusive or.
 pub fn seal(kind: u32, words: &[u32]) -> u32
     ensures { result ≡ seal_from kind words.now }
 {
