@@ -6,7 +6,9 @@ use Rattle.ow_base.specs.World.{Typed, type_line, IsTyped, kind_name, index_coun
 use Rattle.ow_base.specs.declared.worlds.Damage.{Damage}
 use Rattle.ow_base.specs.declared.worlds.DamageKind.{DamageKind}
 use Rattle.ow_base.specs.declared.worlds.DamageKind.TheVariants.{Head, Proc, Sig, Open, File, Cache, Term, Row, Owner, Table, Cached, Page}
-use Rattle.world_file.proofs.LinesUnique.{free, free-append, AreSame, cut_unique, line_unique, free_decimal, decimal_unique, free_hex8, word_unique}
+use Rattle.world_file.proofs.WorldPieces.{free, free-append}
+use Rattle.world_file.proofs.LinesUnique.{AreSame, cut_unique, line_unique, decimal_unique, word_unique}
+use Rattle.world_file.proofs.WorldFields.{free_decimal, free_hex8}
 use Rattle.world_file.proofs.EscapesUnique.{escaped_unique, free_escaped}
 use Rattle.world_file.proofs.TextsUnique.{opening, Anything, AreUnique, IsLineOf}
 

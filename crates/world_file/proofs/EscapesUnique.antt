@@ -6,7 +6,10 @@ use Rattle.std.proofs.lemmas.Bool.{eqb-true}
 use Rattle.std.proofs.lemmas.List.Elements.{recursion_from_All}
 use Rattle.ow_base.specs.Lines.{hex_digit, escaped_byte, escaped}
 use Rattle.ow_base.specs.World.{AreBytes}
-use Rattle.world_file.proofs.LinesUnique.{free, free-append, hex_is_not, AreSame, digit}
+use Rattle.world_file.proofs.WorldPieces.{free, free-append}
+use Rattle.world_file.proofs.WorldFields.{hex_is_not}
+use Rattle.world_file.proofs.LinesUnique.{AreSame}
+use Rattle.world_file.proofs.WorldNumbers.{digit}
 
 -- the first byte that an escape text spells, and what is behind it
 abbrev of_digits : List ℕ → ℕ × List ℕ

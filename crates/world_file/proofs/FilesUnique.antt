@@ -7,9 +7,13 @@ use Rattle.ow_base.specs.Lines.{line, spaced, number_line, escaped}
 use Rattle.ow_base.specs.World.{IsName, IsShape, head_lines, AreBytes, put_line, IsFile, word_line, IsLineful}
 use Rattle.ow_base.specs.declared.machine.Shape.{Shape}
 use Rattle.ow_base.specs.declared.worlds.FileText.{FileText}
-use Rattle.world_file.proofs.LinesUnique.{free, free-append, AreSame, tail_same, line_unique, free_decimal, decimal_unique, free_name, word_text, free_words, words_unique}
+use Rattle.world_file.proofs.WorldPieces.{free, free-append}
+use Rattle.world_file.proofs.LinesUnique.{AreSame, tail_same, line_unique, decimal_unique, words_unique}
+use Rattle.world_file.proofs.WorldFields.{free_decimal, free_name}
+use Rattle.world_file.proofs.WorldSpelled.{word_text, free_words}
 use Rattle.world_file.proofs.EscapesUnique.{escaped_unique, free_escaped}
 use Rattle.world_file.proofs.TextsUnique.{opening, Anything, AreUnique, texts_unique, IsLineOf, lines_are}
+use Rattle.world_file.proofs.WorldHead.{shape_with, five}
 
 -- lines of a key word and one field
 pub field_unique : (key x y r t : List ℕ) → free 10 key ≡ true → free 10 x ≡ true → free 10 y ≡ true → line (spaced key x) ++ r ≡ line (spaced key y) ++ t → AreSame x y r t
@@ -24,13 +28,6 @@ number_line_unique key m n r t clean small_m small_n e =
 
 pub named_line_unique : (key x y r t : List ℕ) → free 10 key ≡ true → IsName x → IsName y → line (spaced key x) ++ r ≡ line (spaced key y) ++ t → AreSame x y r t
 named_line_unique key x y r t clean is_x is_y e = field_unique key x y r t clean (free_name 10 x (omega arith) is_x) (free_name 10 y (omega arith) is_y) e
-
--- the head
-abbrev shape_with : (frames sectors quantum budget : ℕ) → Shape
-shape_with frames sectors quantum budget = record { user_frames = frames; sectors = sectors; quantum = quantum; budget = budget }
-
-five : (a b c d e r : List ℕ) → (a ++ (b ++ (c ++ (d ++ e)))) ++ r ≡ a ++ (b ++ (c ++ (d ++ (e ++ r))))
-five a b c d e r = simp append_assoc
 
 head_text : (s : Shape) (r : List ℕ) → head_lines s ++ r ≡ line (codes "world 1") ++ (number_line (codes "frames") s.user_frames ++ (number_line (codes "sectors") s.sectors
     ++ (number_line (codes "quantum") s.quantum ++ (number_line (codes "budget") s.budget ++ r))))

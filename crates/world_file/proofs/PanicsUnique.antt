@@ -7,7 +7,8 @@ use Rattle.ow_base.specs.Lines.{line, spaced}
 use Rattle.ow_base.specs.World.{AreTexts, damage_line, IsDamage, again_line, IsPanic}
 use Rattle.ow_base.specs.declared.worlds.Damage.{Damage}
 use Rattle.ow_base.specs.declared.worlds.PanicLine.{PanicLine}
-use Rattle.world_file.proofs.LinesUnique.{free, AreSame, line_unique, decimal_unique}
+use Rattle.world_file.proofs.WorldPieces.{free}
+use Rattle.world_file.proofs.LinesUnique.{AreSame, line_unique, decimal_unique}
 use Rattle.world_file.proofs.TextsUnique.{opening, Anything, AreUnique, three, opening_by, texts_unique, IsLineOf, lines_are}
 use Rattle.world_file.proofs.FilesUnique.{number_line_unique}
 use Rattle.world_file.proofs.DamagesUnique.{number_unique, free_number, damage_key, damages_unique}

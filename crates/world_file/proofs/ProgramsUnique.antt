@@ -8,7 +8,9 @@ use Rattle.ow_base.specs.Lines.{line, spaced}
 use Rattle.ow_base.specs.World.{IsName, AreTexts, word_line, IsLineful, AreWordLines, IsProgram, IsStart}
 use Rattle.ow_base.specs.declared.worlds.Program.{Program}
 use Rattle.ow_base.specs.declared.worlds.Start.{Start as Started}
-use Rattle.world_file.proofs.LinesUnique.{free, free-append, AreSame, cut_unique, line_unique, free_decimal, decimal_unique, free_name}
+use Rattle.world_file.proofs.WorldPieces.{free, free-append}
+use Rattle.world_file.proofs.LinesUnique.{AreSame, cut_unique, line_unique, decimal_unique}
+use Rattle.world_file.proofs.WorldFields.{free_decimal, free_name}
 use Rattle.world_file.proofs.TextsUnique.{opening, Anything, AreUnique, three, opening_by, texts_unique, lines_are}
 use Rattle.world_file.proofs.FilesUnique.{named_line_unique, IsWordLine, word_lines_unique}
 

@@ -22,7 +22,8 @@ use Rattle.world_file.specs.WorldFacts.{Facts, has_name}
 use Rattle.world_file.specs.WorldRefusals.{IsBuilt}
 use Rattle.world_file.specs.WorldReading.{with_line, world_of, nothing_said, read_lines, read_text}
 use Rattle.world_file.proofs.WorldPieces.{free-append}
-use Rattle.world_file.proofs.WorldFields.{number_of_accepts, free_decimal, free_name, name_accepts, bytes_eq_self, le_is_true, lt_is_false}
+use Rattle.world_file.proofs.WorldNumbers.{number_of_accepts, bytes_eq_self}
+use Rattle.world_file.proofs.WorldFields.{free_decimal, free_name, name_accepts, le_is_true, lt_is_false}
 use Rattle.world_file.proofs.WorldSpelled.{three_words, some_number, some_text}
 use Rattle.world_file.proofs.WorldPassed.{IsPassed, Reads, reads_line, reads_end}
 use Rattle.world_file.proofs.WorldHead.{at_head, head_read}

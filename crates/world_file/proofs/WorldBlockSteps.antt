@@ -17,7 +17,8 @@ use Rattle.world_file.specs.WorldReasons.{place_of, counted_place, is_taken, has
 use Rattle.world_file.specs.declared.reasons.Place.TheVariants.{Free, Taken}
 use Rattle.world_file.specs.WorldReading.{with_line}
 use Rattle.world_file.proofs.WorldPieces.{joined, behind}
-use Rattle.world_file.proofs.WorldFields.{bytes_eq_self, name_reads, le_true, lt_true, lt_false}
+use Rattle.world_file.proofs.WorldNumbers.{bytes_eq_self}
+use Rattle.world_file.proofs.WorldFields.{name_reads, le_true, lt_true, lt_false}
 use Rattle.world_file.proofs.WorldSpelled.{word_text, count_of_words, spelled_words, spelled_two}
 use Rattle.world_file.proofs.WorldPassed.{IsPassed}
 use Rattle.world_file.proofs.WorldBlocksRead.{at_program, Opens, block, program_said, code_said, data_said}

@@ -1,24 +1,16 @@
 -- Numbers in decimal, words in hexadecimal and names, read and spelled.
-use Rattle.std.proofs.Common.{◌≡◌, ℕ, ◌+◌, ◌/◌, ◌%◌, ◌^◌, ◌<◌, ◌≤◌, Bool, true, false, ◌&&◌, nat_lt, nat_le, ◌==◌, List, [], ◌∷◌, length, Some, bytes_eq, decimal, arith, ap, ◌∙◌, refl, if◌then◌else◌}
+use Rattle.std.proofs.Common.{◌≡◌, ℕ, ◌+◌, ◌/◌, ◌%◌, ◌^◌, ◌<◌, ◌≤◌, Bool, true, false, ◌&&◌, nat_lt, nat_le, ◌==◌, List, [], ◌∷◌, length, decimal, arith, ap, refl, if◌then◌else◌}
 use Rattle.std.specs.Char.{digit_value}
-use Rattle.std.specs.Str.Parse.{digits_value, AllDigits}
+use Rattle.std.specs.Str.Parse.{AllDigits}
 use Rattle.std.specs.List.{AllByRecursion, list_all}
 use Rattle.std.proofs.lemmas.Grind.{common_steps}
-use Rattle.std.proofs.lemmas.Option.{cond_some}
 use Rattle.std.proofs.lemmas.List.Elements.{All-from_recursion, recursion_from_All}
-use Rattle.std.proofs.lemmas.Slice.Eq.{bytes_eq-Decides}
 use Rattle.std.proofs.lemmas.Fmt.{decimal_is_IsNumeral}
 use Rattle.ow_base.specs.Lines.{hex_digit, hex8}
 use Rattle.ow_base.specs.World.{IsName}
-use Rattle.world_file.specs.WorldLines.{number_read, number_of, word_of, is_visible, is_name}
+use Rattle.world_file.specs.WorldLines.{is_visible, is_name}
 use Rattle.world_file.proofs.WorldPieces.{free, free_above, other}
-
-pub both_true : (a b : Bool) → (a && b) ≡ true → (a ≡ true) × (b ≡ true)
-both_true true b h = (refl, h)
-both_true false b h = cc
-
-pub and_true : (a b : Bool) → a ≡ true → b ≡ true → (a && b) ≡ true
-and_true a b ha hb = rw (ha, hb) refl
+use Rattle.world_file.proofs.WorldNumbers.{both_true, and_true}
 
 pub le_true : (a b : ℕ) → nat_le a b ≡ true → a ≤ b
 le_true a b h = grind (arith, common_steps)
@@ -38,63 +30,6 @@ lt_true a b h = grind (arith, common_steps)
 pub lt_is_true : (a b : ℕ) → a < b → nat_lt a b ≡ true
 lt_is_true a b h = grind (arith, common_steps)
 
-pub same_bytes : (a b : List ℕ) → bytes_eq a b ≡ true → a ≡ b
-same_bytes a b h = (bytes_eq-Decides a b).0 h
-
-pub bytes_eq_self : (a : List ℕ) → bytes_eq a a ≡ true
-bytes_eq_self a = (bytes_eq-Decides a a).1 refl
-
-number_reads : (value : ℕ) (spelling text : List ℕ) (n : ℕ) → number_read value spelling text ≡ Some n → (text ≡ spelling) × (value ≡ n) × (value < 2 ^ 32)
-number_reads value spelling text n h =
-    let some = cond_some (nat_lt value (2 ^ 32) && bytes_eq text spelling) value n h in
-    let parts = both_true (nat_lt value (2 ^ 32)) (bytes_eq text spelling) some.0 in
-    (same_bytes text spelling parts.1, some.1, grind (arith, common_steps, parts.0))
-
-number_accepts : (value n : ℕ) (text : List ℕ) → value ≡ n → n < 2 ^ 32 → (spelling : ℕ → List ℕ) → text ≡ spelling n → number_read value (spelling value) text ≡ Some n
-number_accepts value n text e small spelling t =
-    let below : nat_lt n (2 ^ 32) ≡ true = grind (arith, common_steps) in
-    let same = bytes_eq_self (spelling n) in
-    rw (e, t, below, same) refl
-
--- a number that is read is spelled so
-pub number_of_reads : (text : List ℕ) (n : ℕ) → number_of text ≡ Some n → (text ≡ decimal n) × (n < 2 ^ 32)
-unfolding number_of
-number_of_reads text n h =
-    let is = number_reads (digits_value 10 text) (decimal (digits_value 10 text)) text n h in
-    (is.0 ∙ ap decimal is.1, omega (arith, is.1, is.2))
-
--- a number is read from its spelling
-pub number_of_accepts : (n : ℕ) → n < 2 ^ 32 → number_of (decimal n) ≡ Some n
-unfolding number_of
-number_of_accepts n small = number_accepts (digits_value 10 (decimal n)) n (decimal n) (decimal_is_IsNumeral n (omega arith)).1 small decimal refl
-
-digit : (d : ℕ) → d < 16 → digit_value (hex_digit d) ≡ d
-digit d h = grind (arith, common_steps)
-
--- a word's digits are worth the word
-value_of_word : (w : ℕ) → w < 2 ^ 32 → digits_value 16 (hex8 w) ≡ w
-unfolding hex8
-value_of_word w small =
-    let d7 = digit (w / 16 ^ 7 % 16) (omega arith) in
-    let d6 = digit (w / 16 ^ 6 % 16) (omega arith) in
-    let d5 = digit (w / 16 ^ 5 % 16) (omega arith) in
-    let d4 = digit (w / 16 ^ 4 % 16) (omega arith) in
-    let d3 = digit (w / 16 ^ 3 % 16) (omega arith) in
-    let d2 = digit (w / 16 ^ 2 % 16) (omega arith) in
-    let d1 = digit (w / 16 ^ 1 % 16) (omega arith) in
-    let d0 = digit (w / 16 ^ 0 % 16) (omega arith) in
-    rw (d7, d6, d5, d4, d3, d2, d1, d0) (omega arith)
-
-pub word_of_reads : (text : List ℕ) (w : ℕ) → word_of text ≡ Some w → (text ≡ hex8 w) × (w < 2 ^ 32)
-unfolding word_of
-word_of_reads text w h =
-    let is = number_reads (digits_value 16 text) (hex8 (digits_value 16 text)) text w h in
-    (is.0 ∙ ap hex8 is.1, omega (arith, is.1, is.2))
-
-pub word_of_accepts : (w : ℕ) → w < 2 ^ 32 → word_of (hex8 w) ≡ Some w
-unfolding word_of
-word_of_accepts w small = number_accepts (digits_value 16 (hex8 w)) w (hex8 w) (value_of_word w small) small hex8 refl
-
 -- no separator is in digits
 free_digits : (s : ℕ) (ds : List ℕ) → 10 ≤ digit_value s → AllDigits 10 ds → free s ds ≡ true
 free_digits s [] above all = refl
@@ -105,8 +40,8 @@ free_digits s (d ∷ ds) above all =
 pub free_decimal : (s : ℕ) (n : ℕ) → 10 ≤ digit_value s → n < 2 ^ 32 → free s (decimal n) ≡ true
 free_decimal s n above small = free_digits s (decimal n) above (decimal_is_IsNumeral n (omega arith)).0.1
 
-not_hex : (s d : ℕ) → s < 48 → (hex_digit d == s) ≡ false
-not_hex s d small = other (hex_digit d) s (λ e. high d (nat_lt d 10) e)
+pub hex_is_not : (s d : ℕ) → s < 48 → (hex_digit d == s) ≡ false
+hex_is_not s d small = other (hex_digit d) s (λ e. high d (nat_lt d 10) e)
   where
     high : (d : ℕ) (low : Bool) → (if low then 48 + d else 87 + d) ≡ s → ⊥
     high d true e = omega arith
@@ -115,14 +50,14 @@ not_hex s d small = other (hex_digit d) s (λ e. high d (nat_lt d 10) e)
 pub free_hex8 : (s w : ℕ) → s < 48 → free s (hex8 w) ≡ true
 unfolding hex8
 free_hex8 s w small =
-    let d7 = not_hex s (w / 16 ^ 7 % 16) small in
-    let d6 = not_hex s (w / 16 ^ 6 % 16) small in
-    let d5 = not_hex s (w / 16 ^ 5 % 16) small in
-    let d4 = not_hex s (w / 16 ^ 4 % 16) small in
-    let d3 = not_hex s (w / 16 ^ 3 % 16) small in
-    let d2 = not_hex s (w / 16 ^ 2 % 16) small in
-    let d1 = not_hex s (w / 16 ^ 1 % 16) small in
-    let d0 = not_hex s (w / 16 ^ 0 % 16) small in
+    let d7 = hex_is_not s (w / 16 ^ 7 % 16) small in
+    let d6 = hex_is_not s (w / 16 ^ 6 % 16) small in
+    let d5 = hex_is_not s (w / 16 ^ 5 % 16) small in
+    let d4 = hex_is_not s (w / 16 ^ 4 % 16) small in
+    let d3 = hex_is_not s (w / 16 ^ 3 % 16) small in
+    let d2 = hex_is_not s (w / 16 ^ 2 % 16) small in
+    let d1 = hex_is_not s (w / 16 ^ 1 % 16) small in
+    let d0 = hex_is_not s (w / 16 ^ 0 % 16) small in
     rw (d7, d6, d5, d4, d3, d2, d1, d0) refl
 
 -- names

@@ -22,11 +22,12 @@ use Rattle.world_file.specs.declared.reasons.Place.TheVariants.{Free}
 use Rattle.world_file.specs.WorldRefusals.{IsBuilt}
 use Rattle.world_file.specs.WorldReading.{Refusal, with_line, world_of, nothing_said, is_nothing, ended, read_line, read_lines, read_text}
 use Rattle.world_file.proofs.WorldPieces.{joined, joined-pieces, joined_line}
-use Rattle.world_file.proofs.WorldFields.{same_bytes, lt_false}
+use Rattle.world_file.proofs.WorldNumbers.{same_bytes}
+use Rattle.world_file.proofs.WorldFields.{lt_false}
 use Rattle.world_file.proofs.WorldPassed.{IsPassed, passed}
 use Rattle.world_file.proofs.WorldSaid.{IsStarted, SoFar, may_stand}
-use Rattle.world_file.proofs.WorldSaid.SoFar.{Nothing, First, ToFrames, ToSectors, ToQuantum, ToBudget, ToProgram, ToCode, ToData, ToStart}
 use Rattle.world_file.proofs.WorldStarted.{step}
+use Rattle.world_file.proofs.WorldSaid.SoFar.{Nothing, First, ToFrames, ToSectors, ToQuantum, ToBudget, ToProgram, ToCode, ToData, ToStart}
 
 -- the text, if it is not too long, is of this world
 abbrev IsWhole : (text : List ℕ) → World → Type 0

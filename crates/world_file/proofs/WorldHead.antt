@@ -10,7 +10,8 @@ use Rattle.world_file.specs.WorldLines.{Line, words, pieces, key, key_of}
 use Rattle.world_file.specs.WorldFacts.{Facts, no_shape}
 use Rattle.world_file.specs.WorldReading.{with_line, nothing_said}
 use Rattle.world_file.proofs.WorldPieces.{free, free-append}
-use Rattle.world_file.proofs.WorldFields.{number_of_accepts, free_decimal, le_is_true}
+use Rattle.world_file.proofs.WorldNumbers.{number_of_accepts}
+use Rattle.world_file.proofs.WorldFields.{free_decimal, le_is_true}
 use Rattle.world_file.proofs.WorldSpelled.{two_words, some_number}
 use Rattle.world_file.proofs.WorldPassed.{IsPassed, Reads, reads_line}
 
@@ -145,7 +146,7 @@ budget_said shape l n w small =
     let value = number_of_accepts n small in
     rw (k, w, value) refl
 
-five : (a b c d e r : List ℕ) → (a ++ (b ++ (c ++ (d ++ e)))) ++ r ≡ a ++ (b ++ (c ++ (d ++ (e ++ r))))
+pub five : (a b c d e r : List ℕ) → (a ++ (b ++ (c ++ (d ++ e)))) ++ r ≡ a ++ (b ++ (c ++ (d ++ (e ++ r))))
 five a b c d e r = simp append_assoc
 
 -- a line of a key and a number

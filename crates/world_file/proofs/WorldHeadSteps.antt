@@ -10,13 +10,14 @@ use Rattle.world_file.specs.WorldFacts.{Facts, no_shape}
 use Rattle.world_file.specs.WorldReasons.{place_of}
 use Rattle.world_file.specs.declared.reasons.Place.TheVariants.{Free}
 use Rattle.world_file.specs.WorldReading.{with_line, nothing_said}
-use Rattle.world_file.proofs.WorldFields.{same_bytes}
+use Rattle.world_file.proofs.WorldNumbers.{same_bytes}
 use Rattle.world_file.proofs.WorldSpelled.{spelled_two}
 use Rattle.world_file.proofs.WorldPassed.{IsPassed}
 use Rattle.world_file.proofs.WorldHead.{at_head, shape_with, first_said, frames_said, sectors_said, quantum_said, budget_said}
 use Rattle.world_file.proofs.WorldBlocks.{NamesApart}
 use Rattle.world_file.proofs.WorldKeys.{not_false, first_word}
 use Rattle.world_file.proofs.WorldSaid.{IsIn, SoFar, may_stand, limit_found}
+use Rattle.world_file.proofs.TextsUnique.{three}
 use Rattle.world_file.proofs.WorldSaid.SoFar.{First, ToFrames, ToSectors, ToQuantum, ToBudget}
 
 -- which key may follow
@@ -61,9 +62,6 @@ sectors_step text f l u in_u t e is =
     (ap (λ t. t ++ line l) t ∙ append_assoc (line (codes "world 1")) (number_line (codes "frames") u) (line l)
     ∙ ap (λ l. line (codes "world 1") ++ (number_line (codes "frames") u ++ line l)) (spelled_two l (codes "sectors") (decimal found.0) found.1))
     (ap (λ f. with_line f l) e ∙ sectors_said shape l found.0 found.1 found.3)
-
-three : (a b c d : List ℕ) → (a ++ (b ++ c)) ++ d ≡ a ++ (b ++ (c ++ d))
-three a b c d = simp append_assoc
 
 pub quantum_step : (text : List ℕ) (f : Facts) (l : Line) (u s : ℕ) → IsIn 16 384 u → IsIn 1 2048 s
     → text ≡ line (codes "world 1") ++ (number_line (codes "frames") u ++ number_line (codes "sectors") s) → f ≡ at_head Sectors (shape_with u s 0 0)

@@ -7,7 +7,8 @@ use Rattle.world_file.specs.declared.key.Key.{Key}
 use Rattle.world_file.specs.declared.key.Key.TheVariants.{World, Frames, Sectors, Quantum, Budget, Program, Code, Data, Start, End, Unbuilt, Unknown}
 use Rattle.world_file.specs.WorldLines.{Line, words, word_at, fields, key, key_of, is_unbuilt_word, number_of, is_number, is_in, is_there, word_of, is_word}
 use Rattle.world_file.proofs.WorldPieces.{HasPiece, has_piece}
-use Rattle.world_file.proofs.WorldFields.{both_true, same_bytes, number_of_reads, word_of_reads, le_true}
+use Rattle.world_file.proofs.WorldNumbers.{both_true, same_bytes, number_of_reads, word_of_reads}
+use Rattle.world_file.proofs.WorldFields.{le_true}
 
 pub neither : (a b : Bool) → (a || b) ≡ false → (a ≡ false) × (b ≡ false)
 neither true b h = cc

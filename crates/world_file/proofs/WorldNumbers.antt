@@ -55,11 +55,11 @@ pub number_exact : (text : List ℕ) (r : Option ℕ) → IfSome r (λ n. n < 2 
 number_exact text (Some n) small found none = sym (ap number_of found ∙ number_of_accepts n small)
 number_exact text None small found none = missing (number_of text) (λ n h. let is = number_of_reads text n h in none n is.1 is.0)
 
-digit : (d : ℕ) → d < 16 → digit_value (hex_digit d) ≡ d
+pub digit : (d : ℕ) → d < 16 → digit_value (hex_digit d) ≡ d
 digit d h = grind (arith, common_steps)
 
 -- a word's digits are worth the word
-value_of_word : (w : ℕ) → w < 2 ^ 32 → digits_value 16 (hex8 w) ≡ w
+pub value_of_word : (w : ℕ) → w < 2 ^ 32 → digits_value 16 (hex8 w) ≡ w
 unfolding hex8
 value_of_word w small =
     let d7 = digit (w / 16 ^ 7 % 16) (omega arith) in

@@ -13,6 +13,7 @@ use Rattle.world_file.specs.WorldRefusals.{AreRead, IsReadTo, IsRefused}
 use Rattle.world_file.specs.WorldRefusals.IsRefused.{Refused, Early, Behind, Long}
 use Rattle.world_file.specs.WorldReading.{Refusal, nothing_said, with_line, world_of, is_nothing, ended, read_line, read_lines, read_text}
 use Rattle.world_file.proofs.WorldPieces.{has_piece}
+use Rattle.world_file.proofs.WorldNumbers.{same_bytes}
 
 -- one line more
 facts_more : (behind : List Line) (line : Line) → with_line (facts behind) line ≡ facts (line ∷ behind)
@@ -34,14 +35,11 @@ reverse_more : (line : Line) (behind ahead : List Line) → reverse (line ∷ be
 reverse_more line behind ahead =
     ap (λ front. front ++ ahead) (reverse-append (line ∷ []) behind) ∙ append_assoc (reverse behind) (line ∷ []) ahead
 
-same_line : (line : Line) → bytes_eq line (codes "end") ≡ true → line ≡ codes "end"
-same_line line h = (bytes_eq-Decides line (codes "end")).0 h
-
 other_line : (line : Line) → (line ≡ codes "end" → ⊥) → bytes_eq line (codes "end") ≡ false
 other_line line other = by_test (bytes_eq line (codes "end")) refl
   where
     by_test : (test : Bool) → bytes_eq line (codes "end") ≡ test → test ≡ false
-    by_test true e = absurd (other (same_line line e))
+    by_test true e = absurd (other (same_bytes line (codes "end") e))
     by_test false e = refl
 
 -- a line that is neither refused nor the last
@@ -196,7 +194,7 @@ falls_on text behind line next ahead r later place h =
     by_test : (more : Result World Refusal) → reason_at behind line ≡ None → more ≡ read_lines (facts (line ∷ behind)) (length (line ∷ behind)) (next ∷ ahead)
         → (test : Bool) → bytes_eq line (codes "end") ≡ test → (if test then ended (facts behind) (length behind) (next ∷ ahead) else more) ≡ Err r → IsRefused text r.line r.why
     by_test more no_reason same true e h =
-        let last = same_line line e in
+        let last = same_bytes line (codes "end") e in
         behind_end text behind (next ∷ ahead) r (subst (λ l. IsReadTo text behind (l ∷ next ∷ ahead)) last place) (omega arith)
         (subst (λ l. reason_at behind l ≡ None) last no_reason) h
     by_test more no_reason same false e h =

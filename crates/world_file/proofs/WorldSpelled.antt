@@ -5,11 +5,8 @@ use Rattle.std.proofs.lemmas.Fmt.{decimal_is_IsNumeral}
 use Rattle.ow_base.specs.Lines.{spaced, hex8}
 use Rattle.world_file.specs.WorldLines.{Line, words, pieces, word_of, is_word, is_empty}
 use Rattle.world_file.proofs.WorldPieces.{free, free-append, pieces_front, pieces_only, joined, joined-pieces}
-use Rattle.world_file.proofs.WorldFields.{word_of_accepts, free_hex8}
-
-pub one_word : (a : List ℕ) → free 32 a ≡ true → words a ≡ a ∷ []
-unfolding words
-one_word a ha = pieces_only 32 a ha
+use Rattle.world_file.proofs.WorldNumbers.{word_of_accepts}
+use Rattle.world_file.proofs.WorldFields.{free_hex8}
 
 pub two_words : (a b : List ℕ) → free 32 a ≡ true → free 32 b ≡ true → words (spaced a b) ≡ a ∷ b ∷ []
 unfolding words

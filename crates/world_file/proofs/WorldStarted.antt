@@ -16,7 +16,8 @@ use Rattle.world_file.specs.WorldReasons.{place_of, has_no_number, names_no_prog
 use Rattle.world_file.specs.declared.reasons.Place.TheVariants.{Free}
 use Rattle.world_file.specs.WorldReading.{with_line}
 use Rattle.world_file.proofs.WorldPieces.{joined}
-use Rattle.world_file.proofs.WorldFields.{same_bytes, number_of_accepts, lt_false}
+use Rattle.world_file.proofs.WorldNumbers.{same_bytes, number_of_accepts}
+use Rattle.world_file.proofs.WorldFields.{lt_false}
 use Rattle.world_file.proofs.WorldSpelled.{spelled_words, spelled_three}
 use Rattle.world_file.proofs.WorldPassed.{IsPassed}
 use Rattle.world_file.proofs.WorldHead.{at_head}
@@ -24,9 +25,9 @@ use Rattle.world_file.proofs.WorldBlocksRead.{at_program}
 use Rattle.world_file.proofs.WorldAccepts.{at_start}
 use Rattle.world_file.proofs.WorldKeys.{not_false, first_word, words_split, words_two, no_field, number_found}
 use Rattle.world_file.proofs.WorldSaid.{AreBlocks, IsOpen, SoFar, may_stand, field_count}
-use Rattle.world_file.proofs.WorldSaid.SoFar.{Nothing, First, ToFrames, ToSectors, ToQuantum, ToBudget, ToProgram, ToCode, ToData, ToStart}
 use Rattle.world_file.proofs.WorldHeadSteps.{first_step, frames_step, sectors_step, quantum_step, budget_step}
 use Rattle.world_file.proofs.WorldBlockSteps.{closed, program_step, code_step, data_step}
+use Rattle.world_file.proofs.WorldSaid.SoFar.{Nothing, First, ToFrames, ToSectors, ToQuantum, ToBudget, ToProgram, ToCode, ToData, ToStart}
 
 -- what a search by a test that holds somewhere finds
 abbrev IsFoundBy : (name : List ℕ) → Option Program → Type 0

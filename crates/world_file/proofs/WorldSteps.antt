@@ -1,18 +1,18 @@
 -- Reading, a line at a time, where the text behind the line is not cut yet.
-use Rattle.std.proofs.Common.{◌≡◌, ℕ, ◌+◌, ◌<◌, Bool, true, false, nat_lt, List, [], ◌∷◌, ◌++◌, length, find, Option, Some, None, Ok, Err, codes, bytes_eq, arith, ap, ◌∙◌, refl, if◌then◌else◌, ◌==◌, ◌||◌}
-use Rattle.std.specs.Option.{option_or}
+use Rattle.std.proofs.Common.{◌≡◌, ℕ, ◌+◌, ◌<◌, Bool, true, false, nat_lt, List, [], ◌∷◌, length, Option, Some, None, Ok, Err, codes, bytes_eq, arith, ap, ◌∙◌, refl, if◌then◌else◌, ◌==◌}
 use Rattle.std.proofs.lemmas.Grind.{common_steps}
-use Rattle.std.proofs.lemmas.List.Folds.{find-append}
 use Rattle.world_file.specs.declared.key.Key.{Key}
 use Rattle.world_file.specs.declared.key.Key.TheVariants.{World as WorldKey, Frames, Sectors, Quantum, Budget, Program, Code, Data, Start, End as EndKey, Unbuilt, Unknown}
 use Rattle.world_file.specs.declared.why.Why.{Why}
-use Rattle.world_file.specs.declared.why.Why.TheVariants.{FirstLine, NotBuilt, Word, TooMany, Fields, Number, Name, Hex, Escape, Twice, NoSuchProgram, Order, Frames as TooManyFrames, Sectors as TooManySectors, End}
+use Rattle.world_file.specs.declared.why.Why.TheVariants.{End}
 use Rattle.world_file.specs.WorldLines.{Line, with_byte, pieces, key, is_empty}
 use Rattle.world_file.specs.WorldFacts.{Facts, programs_of}
-use Rattle.world_file.specs.WorldReasons.{first_reason, holds, is_no_first_line, is_unbuilt, is_barred, is_taken, place_of, program_place, counted_place, comes_too_often, has_too_many_words}
+use Rattle.world_file.specs.WorldReasons.{first_reason, is_barred, is_taken, place_of, program_place, counted_place, has_too_many_words}
 use Rattle.world_file.specs.declared.reasons.Place.TheVariants.{Free, Taken}
 use Rattle.world_file.specs.WorldReading.{with_line, world_of, is_nothing, ended, read_line, read_lines}
 use Rattle.world_file.proofs.WorldPieces.{HasPiece, has_piece}
+use Rattle.world_file.proofs.WorldPassed.{passed}
+use Rattle.world_file.proofs.WorldKeys.{neither}
 
 -- a line, with the text behind it
 line_behind : (f : Facts) (number : ℕ) (line : Line) (ahead : List Line) → HasPiece ahead
@@ -71,40 +71,11 @@ read_more f number text line rest cut no_reason other =
     ∙ ap (λ r. read_line r f number line (pieces 10 rest) more) no_reason
     ∙ ap (λ test. if test then ended f number (pieces 10 rest) else more) other
 
--- the reasons in three groups: the line's place, its fields, and what they name
-abbrev pub place_reasons : List Why
-place_reasons = FirstLine ∷ NotBuilt ∷ Word ∷ TooMany ∷ []
-
-abbrev pub field_reasons : List Why
-field_reasons = Fields ∷ Number ∷ Name ∷ Hex ∷ Escape ∷ []
-
-abbrev pub name_reasons : List Why
-name_reasons = Twice ∷ NoSuchProgram ∷ Order ∷ TooManyFrames ∷ TooManySectors ∷ []
-
-pub first_of_groups : (f : Facts) (line : Line)
-    → first_reason f line ≡ option_or (find (holds f line) place_reasons) (option_or (find (holds f line) field_reasons) (find (holds f line) name_reasons))
-unfolding first_reason
-first_of_groups f line =
-    find-append (holds f line) place_reasons (field_reasons ++ name_reasons)
-    ∙ ap (option_or (find (holds f line) place_reasons)) (find-append (holds f line) field_reasons name_reasons)
-
 -- a line without a reason may stand, and its kind may come again
-went_on : {A : Type 0} (b : Bool) (x : A) (more : Option A) → (if b then Some x else more) ≡ None → (b ≡ false) × (more ≡ None)
-went_on true x more h = cc
-went_on false x more h = (refl, h)
-
-neither : (a b : Bool) → (a || b) ≡ false → a ≡ false
-neither true b h = cc
-neither false b h = refl
-
 may_stand : (f : Facts) (line : Line) → first_reason f line ≡ None → (is_barred (place_of (key line) f) ≡ false) × (is_taken (place_of (key line) f) ≡ false)
-unfolding first_reason
 may_stand f line h =
-    let first = went_on (is_no_first_line f line) FirstLine _ h in
-    let built = went_on (is_unbuilt (key line) f) NotBuilt _ first.1 in
-    let word = went_on (is_barred (place_of (key line) f)) Word _ built.1 in
-    let many = went_on (comes_too_often f line) TooMany _ word.1 in
-    (word.0, neither (is_taken (place_of (key line) f)) (has_too_many_words (key line) f line) many.0)
+    let is = passed f line h in
+    (is.word, (neither (is_taken (place_of (key line) f)) (has_too_many_words (key line) f line) is.count).0)
 
 counted : (most count : ℕ) → is_taken (counted_place most count) ≡ false → count < most
 counted most count h = by_test (nat_lt count most) refl h

@@ -1,5 +1,5 @@
 -- The words of a line, seen through references.
-use Rattle.std.proofs.Common.{◌≡◌, ℕ, Bool, List, [], ◌∷◌, ◌++◌, map, filter_map, Option, ap, ◌∙◌, sym, refl, Bor, ◌||◌, append_assoc}
+use Rattle.std.proofs.Common.{◌≡◌, ℕ, Bool, List, [], ◌∷◌, ◌++◌, map, filter_map, Option, ap, ◌∙◌, sym, refl, Bor, ◌||◌}
 use Rattle.std.specs.List.{list_any, list_all, cons_option}
 use Rattle.std.proofs.lemmas.List.{map-append}
 use Rattle.std.proofs.lemmas.List.Folds.{list_all-map}
@@ -30,9 +30,3 @@ words_of_map refs all h = sym (filter_by word_of (λ field. field.now) refs) ∙
 pub words_end : (refs : List (Bor (List ℕ))) (last : Bor (List ℕ)) (line : List ℕ) → pieces 32 last.now ≡ last.now ∷ [] → seen refs ++ pieces 32 last.now ≡ pieces 32 line → seen (refs ++ last ∷ []) ≡ words line
 unfolding words
 words_end refs last line whole h = map-append (λ word. word.now) refs (last ∷ []) ∙ ap (λ more. seen refs ++ more) (sym whole) ∙ h
-
-pub words_more : (refs : List (Bor (List ℕ))) (next rest : Bor (List ℕ)) (before : List ℕ) (all : List (List ℕ)) → pieces 32 before ≡ next.now ∷ pieces 32 rest.now → seen refs ++ pieces 32 before ≡ all
-    → seen (refs ++ next ∷ []) ++ pieces 32 rest.now ≡ all
-words_more refs next rest before all cut h =
-    ap (λ front. front ++ pieces 32 rest.now) (map-append (λ word. word.now) refs (next ∷ []))
-    ∙ append_assoc (seen refs) (next.now ∷ []) (pieces 32 rest.now) ∙ ap (λ more. seen refs ++ more) (sym cut) ∙ h
