@@ -362,10 +362,11 @@ fn intents_of_every_kind(rt: HostRuntime) -> Result<(), Fail> {
     for case in &CASES {
         let memory = Memory::new(rt.alloc(), case.gate, case.payload, case.seal)?;
         assert_eq!(rt; gate(&memory, BASE), case.want, "{}", case.name);
-        for (frame, word, value) in case.reads {
-            assert!(rt; *frame < 64 && *word < 1024);
-            let read = overlaid(&memory, BASE, *frame, *word);
-            assert_eq!(rt; read, *value, "{}: word {word} of frame {frame}", case.name);
+        for place in case.reads {
+            let (frame, word, value) = *place;
+            assert!(rt; frame < 64 && word < 1024);
+            let read = overlaid(&memory, BASE, frame, word);
+            assert_eq!(rt; read, value, "word {word} of frame {frame}");
         }
     }
     Ok(())
