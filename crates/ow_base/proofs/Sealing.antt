@@ -1,5 +1,5 @@
 -- A change of one word of a sealed record breaks its seal.
-use Rattle.std.proofs.Common.{◌≡◌, ◌≢◌, ℕ, zero, suc, ◌+◌, ◌-◌, ◌*◌, ◌/◌, ◌%◌, ◌^◌, ◌<◌, ◌≤◌, ◌∙◌, sym, ap, refl, arith, List, [], ◌∷◌, length, take, drop, get_or, set, bit_xor, ◌⊎◌, inl, inr}
+use Rattle.std.proofs.Common.{◌≡◌, ◌≢◌, ℕ, zero, suc, ◌+◌, ◌-◌, ◌*◌, ◌/◌, ◌%◌, ◌^◌, ◌<◌, ◌≤◌, ◌∙◌, sym, ap, arith, List, [], ◌∷◌, length, slice_index, slice_set, take, drop, get_or, set, bit_xor, ◌⊎◌, inl, inr}
 use Rattle.std.proofs.lemmas.List.{length-set, get_or-set_same, get_or-set_other, drop-set-lt, drop-set-add, take-set-le}
 use Rattle.std.proofs.lemmas.Bool.{cases_eq}
 use Rattle.std.proofs.Math.Seq.{take-set-lt}
@@ -44,8 +44,8 @@ unfolding seal_from
 one_beginning [] a b fits small smaller same = same
 one_beginning (word ∷ words) a b fits small smaller same =
     turned_same a b small smaller
-        (joined_left (rotate_left w32 a 5) (rotate_left w32 b 5) word
-            (one_beginning words _ _ (λ k. fits (suc k)) (step_small a word small (fits 0)) (step_small b word smaller (fits 0)) same))
+    (joined_left (rotate_left w32 a 5) (rotate_left w32 b 5) word
+    (one_beginning words _ _ (λ k. fits (suc k)) (step_small a word small (fits 0)) (step_small b word smaller (fits 0)) same))
 
 -- and so does that of words of which one is changed
 pub one_within : (words : List ℕ) (begun i value : ℕ) → AreWords words → begun < 2 ^ 32 → value < 2 ^ 32 → i < length words
@@ -54,7 +54,7 @@ unfolding seal_from
 one_within [] begun i value fits small smaller within same = absurd (omega arith)
 one_within (word ∷ words) begun zero value fits small smaller within same =
     sym (joined_right (rotate_left w32 begun 5) word value
-        (one_beginning words _ _ (λ k. fits (suc k)) (step_small begun word small (fits 0)) (step_small begun value small smaller) same))
+    (one_beginning words _ _ (λ k. fits (suc k)) (step_small begun word small (fits 0)) (step_small begun value small smaller) same))
 one_within (word ∷ words) begun (suc i) value fits small smaller within same =
     one_within words _ i value (λ k. fits (suc k)) (step_small begun word small (fits 0)) smaller (omega arith) same
 
@@ -109,7 +109,7 @@ between_changed words i value fits within small before after =
     let body = body_of_between words i value within in
     let sealed_after = rw (same_length, first, last, body) at after in
     one_within (take (length words - 2) (drop 1 words)) (get_or words 0 0) i value (body_fits words fits) (fits 0) small
-        (rw body_long within) (sym before ∙ sealed_after)
+    (rw body_long within) (sym before ∙ sealed_after)
     ∙ body_word words i within
 
 later_changed : (words : List ℕ) (i value : ℕ) → AreWords words → 2 ≤ length words → 1 + i < length words → value < 2 ^ 32
@@ -119,10 +119,16 @@ later_changed words i value fits long within small (inl last) before after = las
 later_changed words i value fits long within small (inr other) before after =
     between_changed words i value fits (omega arith) small before after
 
--- a sealed record of which one word is changed is sealed no more: where it still is, the word is the old one
+-- where a record with one word set is still sealed, the word is the old one
 pub one_changed : (words : List ℕ) (i value : ℕ) → AreWords words → 2 ≤ length words → i < length words → value < 2 ^ 32
     → IsSealed words → IsSealed (set words i value) → value ≡ get_or words i 0
 one_changed words zero value fits long within small before after = first_changed words value fits long small before after
 one_changed words (suc i) value fits long within small before after =
     let place : suc i ≡ 1 + i = omega arith in
     later_changed words i value fits long (omega arith) small (cases_eq i (length words - 2)) before (rw place at after) ∙ ap (λ n. get_or words n 0) (sym place)
+
+-- so a record with one word changed to another is sealed no more
+pub broken : (words : List ℕ) (i value : ℕ) → AreWords words → 2 ≤ length words → i < length words → value < 2 ^ 32
+    → value ≢ slice_index words i → IsSealed words → IsSealed (slice_set words i value) → ⊥
+broken words i value fits long within small other before after =
+    other (one_changed words i value fits long within small before after)

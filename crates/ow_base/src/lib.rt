@@ -19,7 +19,7 @@ pub use machine::{
 pub use memory::WordSource;
 pub use numerals::{decimal, hex8};
 pub use outside::{Failed, Sink, Source};
-pub use seals::{is_sealed, put_seal, seal};
+pub use seals::{is_sealed, one_change_breaks_a_seal, put_seal, seal};
 pub use sequence::List;
 pub use standard::{StdSink, StdSource};
 pub use transfer::{ReadAllFault, put_all, put_escaped, put_number, read_all};

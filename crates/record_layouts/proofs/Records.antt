@@ -1,18 +1,13 @@
 -- Lemmas on records of any kind.
-use Rattle.std.proofs.Common.{◌≡◌, ◌≢◌, ℕ, ◌+◌, ◌-◌, ◌^◌, ◌<◌, ◌≤◌, arith, List, length, slice_index, slice_set, take, drop, replicate, get_or, ap, sym, ◌∙◌, inl, inr}
+use Rattle.std.proofs.Common.{◌≡◌, ℕ, ◌+◌, ◌-◌, ◌<◌, ◌≤◌, arith, List, length, slice_index, take, drop, replicate, get_or, ap, sym, ◌∙◌, inl, inr}
 use Rattle.std.proofs.lemmas.Grind.{common_steps}
 use Rattle.std.proofs.lemmas.List.{same_lists, get_or_default, get_or-replicate}
 use Rattle.std.proofs.lemmas.Bool.{cases_eq, cases_lt}
-use Rattle.ow_base.specs.Seals.{AreWords, IsSealed, seal_of}
-use Rattle.ow_base.proofs.Sealing.{one_changed}
+use Rattle.ow_base.specs.Seals.{IsSealed, seal_of}
+pub use Rattle.ow_base.proofs.Sealing.{broken}
 use Rattle.record_layouts.specs.Spelling.{AreZero}
 
--- a record with one word changed to another is not sealed
-pub broken : (words : List ℕ) (i value : ℕ) → AreWords words → 2 ≤ length words → i < length words → value < 2 ^ 32
-    → value ≢ slice_index words i → IsSealed words → IsSealed (slice_set words i value) → ⊥
-broken words i value fits long within small other before after =
-    other (one_changed words i value fits long within small before after)
-
+-- a row of zeros has 0 at each of its places
 none_there : (n k : ℕ) → k < n → ◌≡◌ {A = ℕ} (get_or (replicate n 0) k 0) 0
 none_there n k less = get_or-replicate n k 0 0 less
 

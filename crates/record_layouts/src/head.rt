@@ -1,4 +1,4 @@
-//! The head of an area: what the kernel that lives in it knows as a whole.
+//! The record of the head of an area.
 
 ghost use Rattle.std.specs.Prelude.{◌≡◌, ◌≢◌, ℕ, ◌^◌, ◌<◌, ◌↔◌, List, slice_index, slice_set, IsTrue, IfSome, IfNone};
 ghost use Rattle.record_layouts.specs.declared.head.HeadRec.{HeadRec};

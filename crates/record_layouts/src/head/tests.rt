@@ -51,12 +51,3 @@ fn ranges_of_a_head(rt: HostRuntime) {
         assert_eq!(rt; is_read_with(word, value), read, "word {word} as {value:x}");
     }
 }
-
-#[test]
-fn a_changed_head_is_not_read(rt: HostRuntime) {
-    for word in 0..16 {
-        let mut words = HEAD.to_words();
-        words[word] ^= 0x8000_0000;
-        assert!(rt; HeadRec::from_words(&words).is_none(), "word {word}");
-    }
-}
