@@ -29,14 +29,7 @@ impl Regs {
         Regs { words: [0; 31] }
     }
 
-    /// The registers that hold these words, x1 first.
-    pub const fn of(words: [u32; 31]) -> Regs
-        ensures { result ≡ words }
-    {
-        Regs { words }
-    }
-
-    /// The words of x1 to x31.
+    /// The words of x1 to x31, in this order.
     pub const fn words(&self) -> &[u32; 31]
         ensures { result.now ≡ self.now }
     {
@@ -63,6 +56,15 @@ impl Regs {
         if r != 0 {
             self.words[r as usize - 1] = value;
         }
+    }
+}
+
+/// The registers that hold these words, x1 first.
+impl From<[u32; 31]> for Regs {
+    ghost from_gives = { λ words regs. regs ≡ words };
+
+    fn from(words: [u32; 31]) -> Regs {
+        Regs { words }
     }
 }
 

@@ -9,3 +9,4 @@ pub mod PackedBytes
 pub mod Signals
 pub mod Rows
 pub mod Files
+pub mod Processes

@@ -105,7 +105,7 @@ fn regs_at(words: &[u32], at: usize) -> Regs
 {
     let mut regs = [0; 31];
     regs.copy_from_slice(&words[at..at + 31]);
-    Regs::of(regs)
+    Regs::from(regs)
 }
 
 // The descriptors that lie from word `at` on.
@@ -165,12 +165,14 @@ impl ProcRec {
             && is_blank_bank(&self.crash_save)
     }
 
+    // A free slot.
     fn fits_free(&self) -> bool
         ensures { IsTrue result ↔ FitsFree self.now }
     {
         self.is_over() && self.pid == 0 && self.parent == 0 && self.status == 0
     }
 
+    // A process that has ended.
     fn fits_ended(&self) -> bool
         ensures { IsTrue result ↔ FitsEnded self.now }
     {
@@ -180,6 +182,7 @@ impl ProcRec {
             && is_status(self.status)
     }
 
+    // A process that goes on, but for its call.
     fn fits_live(&self) -> bool
         ensures { IsTrue result ↔ FitsLive self.now }
     {
@@ -193,8 +196,8 @@ impl ProcRec {
             && are_descs(&self.descs)
     }
 
-    /// It is a value that a record can have: each field is in its range, and 0 where the state does not use it.
-    pub fn fits(&self) -> bool
+    // Each field is in its range, and 0 where the state does not use it.
+    fn fits(&self) -> bool
         ensures { IsTrue result ↔ FitsProc self.now }
     {
         match self.state {
@@ -206,7 +209,7 @@ impl ProcRec {
         }
     }
 
-    /// The words of the record. It is a value that a record can have.
+    /// The words of the record. Each field is in its range, and 0 where the state does not use it.
     pub fn to_words(&self) -> [u32; 128]
         requires { FitsProc self.now }
         ensures { IsProc result self.now }
@@ -246,16 +249,16 @@ impl ProcRec {
         ]
     }
 
-    /// The process that the words are the record of, if there is one.
+    /// The process whose record the words are. `None` comes where they are no record of a process.
     pub fn from_words(words: &[u32; 128]) -> Option<ProcRec>
-        ensures found { IfSome result (IsProc words.now) }
-        ensures none { IfNone result ((r : ProcRec) → IsProc words.now r → ⊥) }
+        ensures found { IfSome result (λ process. IsProc words.now process) }
+        ensures none { IfNone result ((process : ProcRec) → IsProc words.now process → ⊥) }
     {
         if words[0] != KIND || !are_zero(words, 117, 127) || !is_sealed(words) {
             return None;
         }
         let bank = bank_at(words, 21);
-        let record = ProcRec {
+        let process = ProcRec {
             state: words[1],
             pid: words[2],
             parent: words[3],
@@ -274,7 +277,7 @@ impl ProcRec {
             handler_save: bank_at(words, 53),
             crash_save: bank_at(words, 85),
         };
-        if record.fits() { Some(record) } else { None }
+        if process.fits() { Some(process) } else { None }
     }
 }
 

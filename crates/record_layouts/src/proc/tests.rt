@@ -11,7 +11,7 @@ fn counted_bank(first: u32) -> Bank {
     }
     Bank {
         pc: first.wrapping_mul(256),
-        regs: Regs::of(words),
+        regs: Regs::from(words),
     }
 }
 

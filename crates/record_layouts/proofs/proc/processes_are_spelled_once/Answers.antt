@@ -1,5 +1,5 @@
 use Rattle.std.proofs.Common.{arith}
-use Rattle.record_layouts.proofs.Parts.{numbers_agree, banks_agree}
+use Rattle.record_layouts.proofs.Processes.{numbers_agree, banks_agree}
 use Rattle.record_layouts.proofs.Records.{broken, block, gap, one_record}
 use Rattle.record_layouts.proofs.proc.processes_are_spelled_once.Goals as goal
 

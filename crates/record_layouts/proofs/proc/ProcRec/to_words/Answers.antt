@@ -1,5 +1,7 @@
+-- Each part is followed from where it was put to the end: what is put later lies behind it.
 use Rattle.std.proofs.Common.{◌≡◌, ◌∙◌, length, take, replicate, arith, refl}
-use Rattle.record_layouts.proofs.Parts.{front_before, part_before, bank_before, zeros_before, zeros_behind, before_seal, sealing, numbers}
+use Rattle.record_layouts.proofs.Parts.{front_before, part_before, zeros_before, zeros_behind, before_seal, sealing}
+use Rattle.record_layouts.proofs.Processes.{bank_before, numbers}
 use Rattle.record_layouts.proofs.Records.{zeros}
 use Rattle.record_layouts.proofs.proc.ProcRec.to_words.Goals as goal
 
@@ -12,7 +14,7 @@ returns c =
     let with_handler = c.put_bank-2.new.words in
     let with_crash = c.put_bank-3.new.words in
     let sealed_words = c.put_seal.ensures.seal in
-    let behind_seal : take 127 words ≡ take 127 c.put_bank-3.new.words = rw sealed_words (before_seal c.put_bank-3.new.words 127 (omega arith)) in
+    let behind_seal : take 127 words ≡ take 127 with_crash = rw sealed_words (before_seal with_crash 127 (omega arith)) in
     let to_crash = front_before _ _ 127 85 behind_seal (omega arith) ∙ c.put_bank-3.ensures.before in
     let to_handler = front_before _ _ 85 53 to_crash (omega arith) ∙ c.put_bank-2.ensures.before in
     let to_bank = front_before _ _ 53 21 to_handler (omega arith) ∙ c.put_bank.ensures.before in
@@ -35,5 +37,5 @@ returns c =
           (zeros_behind with_front (replicate 128 0) 13 117 127 (rw thirteen at c.put.ensures.behind) (omega arith)
           (zeros (replicate 128 0) 117 127 refl))))));
       fits = c.requires;
-      seal = rw sealed_words (sealing c.put_bank-3.new.words (omega arith));
+      seal = rw sealed_words (sealing with_crash (omega arith));
     }
