@@ -4,11 +4,11 @@ use Rattle.record_layouts.specs.declared.row.RowRec.{RowRec}
 use Rattle.ow_base.specs.Seals.{AreWords, IsSealed}
 use Rattle.record_layouts.specs.Packing.{ArePacked}
 
--- the place of a row is one of the 24 rows of two terminals
+-- the place is one of the 48 rows of both terminals
 pub record FitsRow (row : RowRec) : Type 0 where
   pub place : row.place < 48
 
--- these words are the record of this row
+-- the words are the record of this row
 pub record IsRow (words : List ℕ) (row : RowRec) : Type 0 where
   pub long : length words ≡ 24
   pub all_words : AreWords words

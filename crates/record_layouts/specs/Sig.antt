@@ -1,16 +1,15 @@
 -- The signal record of a process.
-use Rattle.std.specs.Prelude.{◌≡◌, ℕ, ◌%◌, ◌^◌, ◌<◌, List, length, slice_index}
-use Rattle.std.proofs.Common.{take, drop}
+use Rattle.std.specs.Prelude.{◌≡◌, ℕ, ◌%◌, ◌^◌, ◌<◌, List, length, take, drop, slice_index}
 use Rattle.record_layouts.specs.declared.sig.SigRec.{SigRec}
 use Rattle.ow_base.specs.Seals.{AreWords, IsSealed}
 use Rattle.record_layouts.specs.Spelling.{AreZero}
 
--- only bits 1 to 15 are pending, one for each signal
+-- the pending signals are the bits 1 to 15
 pub record FitsSig (signals : SigRec) : Type 0 where
-  pub below : signals.pending < 2 ^ 16
-  pub no_lowest : signals.pending % 2 ≡ 0
+  pub highest : signals.pending < 2 ^ 16
+  pub lowest : signals.pending % 2 ≡ 0
 
--- these words are the record of these signals
+-- the words are the record of these signals
 pub record IsSig (words : List ℕ) (signals : SigRec) : Type 0 where
   pub long : length words ≡ 32
   pub all_words : AreWords words

@@ -1,3 +1,5 @@
+//! The record of a file.
+
 ghost use Rattle.std.specs.Prelude.{◌≡◌, ◌≢◌, ℕ, ◌^◌, ◌<◌, ◌≤◌, ◌↔◌, List, length, take, All, EachIndex, slice_index, slice_set, IsTrue, IfSome, IfNone};
 ghost use Rattle.record_layouts.specs.declared.file.FileRec.{FileRec};
 ghost use Rattle.ow_base.specs.World.{IsName};
@@ -10,15 +12,20 @@ use ow_base::{is_sealed, put_seal};
 
 const KIND: u32 = 0x4649_4c45;
 
-// The most bytes of a name, the most pages of a file, and the most data sectors of a disk.
-const NAME_BYTES: u32 = 24;
+// The most bytes of a name.
+const NAME_BYTES: usize = 24;
 
-const PAGES: u32 = 64;
+// The most pages of a file.
+const PAGES: usize = 64;
 
+// The most data sectors of a disk.
 const SECTORS: u32 = 2048;
 
-/// A file: its name in the first `name_len` bytes, its size in bytes, and the data sectors of its `kept` pages.
-/// In state 0 there is no file, and in state 1 there is one.
+/// A file. In state 0 there is none, and all else is 0; in state 1 there is one.
+///
+/// Its name, 1 to 24 bytes of 33 to 126, is the first `name_len` bytes of `name`. `size` counts its bytes, and
+/// `kept` its pages, at most 64; of each of these the first words of `sectors` have the data sector, below 2,048.
+/// The bytes and sectors behind are 0.
 #[derive(Clone, Copy, Debug, PartialEq, Eq)]
 pub struct FileRec {
     pub state: u32,
@@ -30,7 +37,7 @@ pub struct FileRec {
 }
 
 impl FileRec {
-    /// The words of the record.
+    /// The words of the record. The fields are in their ranges.
     pub fn to_words(&self) -> [u32; 96]
         requires { FitsFile self.now }
         ensures { IsFile result self.now }
@@ -47,11 +54,11 @@ impl FileRec {
         words
     }
 
-    /// The file that these words are a record of. `None` comes where they are none: of another kind, with a field
-    /// outside its range, with a word that is to be 0, or with a wrong seal.
+    /// The file whose record the words are. `None` comes where they are no record of a file: of another kind, with
+    /// a field outside its range, a word that is not used and not 0, or a wrong seal.
     pub fn from_words(words: &[u32; 96]) -> Option<FileRec>
-        ensures found { IfSome result (λ r. IsFile words.now r) }
-        ensures none { IfNone result ((r : FileRec) → IsFile words.now r → ⊥) }
+        ensures found { IfSome result (λ file. IsFile words.now file) }
+        ensures none { IfNone result ((file : FileRec) → IsFile words.now file → ⊥) }
     {
         if words[0] != KIND || !are_zero(words, 75, 95) || !is_sealed(words) {
             return None;
@@ -74,12 +81,12 @@ impl FileRec {
     fn fits(&self) -> bool
         ensures { IsTrue result ↔ FitsFile self.now }
     {
-        self.name_len <= NAME_BYTES
+        self.name_len as usize <= NAME_BYTES
             && self.state_fits()
             && self.name_ends()
-            && self.kept <= PAGES
+            && self.kept as usize <= PAGES
             && self.sectors_fit()
-            && are_zero(&self.sectors, self.kept as usize, 64)
+            && are_zero(&self.sectors, self.kept as usize, PAGES)
     }
 
     fn state_fits(&self) -> bool
@@ -123,7 +130,9 @@ pub const fn files_are_spelled_once()
 fn is_name(bytes: &[u8]) -> bool
     ensures { IsTrue result ↔ IsName bytes.now }
 {
-    !bytes.is_empty() && bytes.len() <= 24 && bytes.iter().all(|byte| byte.is_ascii_graphic())
+    !bytes.is_empty()
+        && bytes.len() <= NAME_BYTES
+        && bytes.iter().all(|byte| byte.is_ascii_graphic())
 }
 
 fn are_empty(bytes: &[u8]) -> bool
@@ -131,3 +140,6 @@ fn are_empty(bytes: &[u8]) -> bool
 {
     bytes.iter().all(|byte| *byte == 0)
 }
+
+#[cfg(test)]
+mod tests;

@@ -1,3 +1,5 @@
+//! The record of a row of a terminal.
+
 ghost use Rattle.std.specs.Prelude.{◌≡◌, ◌≢◌, ℕ, ◌^◌, ◌<◌, List, slice_index, slice_set, IfSome, IfNone};
 ghost use Rattle.record_layouts.specs.declared.row.RowRec.{RowRec};
 ghost use Rattle.record_layouts.specs.Row.{FitsRow, IsRow};
@@ -10,8 +12,8 @@ const KIND: u32 = 0x524f_5753;
 // The rows of both terminals, 24 each.
 const PLACES: u32 = 48;
 
-/// A row of a terminal: its place, which is 24 times the terminal and its index in the ring of rows, and the
-/// bytes of its 80 cells.
+/// A row of a terminal: `place` is 24 times the terminal and its index in the ring of rows, so 0 to 47, and `text`
+/// has the bytes of its 80 cells.
 #[derive(Clone, Copy, Debug, PartialEq, Eq)]
 pub struct RowRec {
     pub place: u32,
@@ -19,7 +21,7 @@ pub struct RowRec {
 }
 
 impl RowRec {
-    /// The words of the record.
+    /// The words of the record. The place is below 48.
     pub fn to_words(&self) -> [u32; 24]
         requires { FitsRow self.now }
         ensures { IsRow result self.now }
@@ -32,11 +34,11 @@ impl RowRec {
         words
     }
 
-    /// The row that these words are a record of. `None` comes where they are none: of another kind, with a place
-    /// past 47, with a word that is to be 0, or with a wrong seal.
+    /// The row whose record the words are. `None` comes where they are no record of a row: of another kind, with a
+    /// place past 47, a word that is not used and not 0, or a wrong seal.
     pub fn from_words(words: &[u32; 24]) -> Option<RowRec>
-        ensures found { IfSome result (λ r. IsRow words.now r) }
-        ensures none { IfNone result ((r : RowRec) → IsRow words.now r → ⊥) }
+        ensures found { IfSome result (λ row. IsRow words.now row) }
+        ensures none { IfNone result ((row : RowRec) → IsRow words.now row → ⊥) }
     {
         if words[0] != KIND || words[1] >= PLACES || words[22] != 0 || !is_sealed(words) {
             return None;
@@ -58,3 +60,6 @@ pub const fn rows_are_spelled_once()
     ensures changed { (words : List ℕ) (row : RowRec) → IsRow words row → (i value : ℕ) → i < 24 → value < 2 ^ 32
         → value ≢ slice_index words i → (other : RowRec) → IsRow (slice_set words i value) other → ⊥ }
 {}
+
+#[cfg(test)]
+mod tests;

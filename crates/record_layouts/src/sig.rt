@@ -1,3 +1,5 @@
+//! The record of a process's signals.
+
 ghost use Rattle.std.specs.Prelude.{◌≡◌, ◌≢◌, ℕ, ◌^◌, ◌<◌, ◌↔◌, List, slice_index, slice_set, IsTrue, IfSome, IfNone};
 ghost use Rattle.record_layouts.specs.declared.sig.SigRec.{SigRec};
 ghost use Rattle.record_layouts.specs.Sig.{FitsSig, IsSig};
@@ -7,8 +9,10 @@ use ow_base::{is_sealed, put_seal};
 
 const KIND: u32 = 0x5349_4753;
 
-/// The signals of a process: which ones wait for it, bit N for signal N, and the address of its handler for
-/// each of the signals 1 to 15, or 0 for none.
+/// The signals of a process.
+///
+/// `pending` has bit N set where signal N, 1 to 15, waits. `handlers` has the address of the handler of each signal
+/// from 1 to 15, or 0.
 #[derive(Clone, Copy, Debug, PartialEq, Eq)]
 pub struct SigRec {
     pub pid: u32,
@@ -17,7 +21,7 @@ pub struct SigRec {
 }
 
 impl SigRec {
-    /// The words of the record.
+    /// The words of the record. Only signals 1 to 15 wait.
     pub fn to_words(&self) -> [u32; 32]
         requires { FitsSig self.now }
         ensures { IsSig result self.now }
@@ -31,11 +35,11 @@ impl SigRec {
         words
     }
 
-    /// The signals that these words are a record of. `None` comes where they are none: of another kind, with a
-    /// pending signal beside 1 to 15, with a word that is to be 0, or with a wrong seal.
+    /// The signals whose record the words are. `None` comes where they are no record of signals: of another kind,
+    /// with a signal beside 1 to 15 waiting, a word that is not used and not 0, or a wrong seal.
     pub fn from_words(words: &[u32; 32]) -> Option<SigRec>
-        ensures found { IfSome result (λ r. IsSig words.now r) }
-        ensures none { IfNone result ((r : SigRec) → IsSig words.now r → ⊥) }
+        ensures found { IfSome result (λ signals. IsSig words.now signals) }
+        ensures none { IfNone result ((signals : SigRec) → IsSig words.now signals → ⊥) }
     {
         if words[0] != KIND || !are_zero(words, 18, 31) || !is_sealed(words) {
             return None;
@@ -57,11 +61,14 @@ impl SigRec {
     }
 }
 
-/// A law; the function does nothing. Words are the record of one signal record at most, such a record has one record, and with
-/// one word changed to another it is the record of no signal record.
+/// A law; the function does nothing. Words are the record of the same signals always, the same signals have one
+/// record, and with one word changed to another it is the record of no signals.
 pub const fn signals_are_spelled_once()
     ensures value { (words : List ℕ) (a b : SigRec) → IsSig words a → IsSig words b → a ≡ b }
     ensures words { (some others : List ℕ) (signals : SigRec) → IsSig some signals → IsSig others signals → some ≡ others }
     ensures changed { (words : List ℕ) (signals : SigRec) → IsSig words signals → (i value : ℕ) → i < 32 → value < 2 ^ 32
         → value ≢ slice_index words i → (other : SigRec) → IsSig (slice_set words i value) other → ⊥ }
 {}
+
+#[cfg(test)]
+mod tests;
