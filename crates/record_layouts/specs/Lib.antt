@@ -1,4 +1,4 @@
--- Which words are a record of which value.
+-- Which words are a record of which value, where a record lies, and what an open intent makes of an area.
 pub mod Spelling
 pub mod Head
 pub mod Overlay

@@ -1,5 +1,6 @@
 //! The records of the kernel: which words of memory stand for which value, and back. Each value has one
-//! spelling, and a record of which one word is changed is no record any more.
+//! spelling, and a record of which one word is changed is no record any more. Where in an area each record lies, and
+//! the words of an area while an intent to change some of them is open, are told here too.
 #![tactic(auto)]
 
 mod cache;
