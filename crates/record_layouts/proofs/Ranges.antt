@@ -1,11 +1,11 @@
 -- Lists of ranges, as words of an area spell them.
-use Rattle.std.proofs.Common.{inl, inr, ◌≡◌, ℕ, zero, suc, ◌+◌, ◌-◌, ◌*◌, ◌<◌, ◌≤◌, Bool, true, false, if◌then◌else◌, List, [], ◌∷◌, length, take, drop, slice_index, get_or, Option, Some, None, is_some, refl, sym, ap, ◌∙◌, arith, length-drop, add-one}
+use Rattle.std.proofs.Common.{inl, inr, ◌≡◌, ℕ, zero, suc, ◌+◌, ◌-◌, ◌*◌, ◌<◌, ◌≤◌, true, false, if◌then◌else◌, List, [], ◌∷◌, length, take, drop, slice_index, Option, Some, None, is_some, refl, sym, ap, ◌∙◌, arith, length-drop}
 use Rattle.std.proofs.lemmas.Grind.{common_steps}
 use Rattle.std.proofs.lemmas.Bool.{cases_lt, cases_Bool, false≢true}
 use Rattle.std.proofs.lemmas.Bool.Decides.{nat_tests}
 use Rattle.ow_base.specs.Seals.{seal_from}
 use Rattle.record_layouts.specs.declared.intent.Change.{Change}
-use Rattle.record_layouts.specs.Overlay.{Area, words_from, WordRange, is_range, before, begin_of, end_of, lies_in, is_within, may_change, laid, or_none, ranges_of, ranges_in, range_at, StandsFirst, values_end}
+use Rattle.record_layouts.specs.Overlay.{Area, words_from, WordRange, is_range, before, begin_of, end_of, lies_in, laid, or_none, ranges_of, ranges_in, range_at, StandsFirst, values_end}
 
 pub length-words_from : (area : Area) (first count : ℕ) → length (words_from area first count) ≡ count
 unfolding words_from

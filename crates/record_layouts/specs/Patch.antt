@@ -1,5 +1,5 @@
 -- Records that are set together.
-use Rattle.std.specs.Prelude.{◌≡◌, ◌≢◌, List, All, AllPairs}
+use Rattle.std.specs.Prelude.{◌≢◌, List, All, AllPairs}
 use Rattle.record_layouts.specs.declared.places.RecordId.{RecordId}
 use Rattle.record_layouts.specs.declared.places.RecordId.TheVariants as id
 use Rattle.record_layouts.specs.declared.patch.AnyRec.{AnyRec}

@@ -1,6 +1,6 @@
 -- Where the records of an area lie. The words of an area are numbered through its frames: word w of frame f has the
 -- number 1024 * f + w.
-use Rattle.std.specs.Prelude.{◌≡◌, ℕ, ◌+◌, ◌-◌, ◌*◌, ◌<◌, ◌≤◌, ◌⊎◌}
+use Rattle.std.specs.Prelude.{ℕ, ◌+◌, ◌-◌, ◌*◌, ◌<◌, ◌≤◌, ◌⊎◌}
 use Rattle.record_layouts.specs.declared.places.RecordId.{RecordId}
 use Rattle.record_layouts.specs.declared.places.RecordId.TheVariants.{Head, Proc, Sig, Desc, File, Cache, Term, Row, Exit}
 

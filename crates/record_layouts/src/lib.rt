@@ -1,6 +1,7 @@
 //! The records of the kernel: which words of memory stand for which value, and back. Each value has one
-//! spelling, and a record of which one word is changed is no record any more. The definitions of the Unix
-//! stand here too, in `specs/`.
+//! spelling, and a record of which one word is changed is no record any more. Where in an area each record lies, and
+//! the words of an area while an intent to change some of them is open, are told here too. The definitions of the
+//! Unix stand in `specs/`.
 #![tactic(auto)]
 
 mod cache;

@@ -357,22 +357,17 @@ const CASES: [Case; 28] = [
     },
 ];
 
-// The gate says what the case wants, and each word that it reads, in the area, is as it says.
-fn is_read(alloc: Global, case: &Case) -> Result<bool, AllocError> {
-    let memory = Memory::new(alloc, case.gate, case.payload, case.seal)?;
-    let mut right = gate(&memory, BASE) == case.want;
-    for (frame, word, value) in case.reads {
-        let inside = *frame < 64 && *word < 1024;
-        right = right && inside && overlaid(&memory, BASE, *frame, *word) == *value;
-    }
-    Ok(right)
-}
-
 #[test]
 fn intents_of_every_kind(rt: HostRuntime) -> Result<(), Fail> {
     for case in &CASES {
-        let right = is_read(rt.alloc(), case)?;
-        assert!(rt; right, "{}", case.name);
+        let memory = Memory::new(rt.alloc(), case.gate, case.payload, case.seal)?;
+        assert_eq!(rt; gate(&memory, BASE), case.want, "{}", case.name);
+        for place in case.reads {
+            let (frame, word, value) = *place;
+            assert!(rt; frame < 64 && word < 1024);
+            let read = overlaid(&memory, BASE, frame, word);
+            assert_eq!(rt; read, value, "word {word} of frame {frame}");
+        }
     }
     Ok(())
 }

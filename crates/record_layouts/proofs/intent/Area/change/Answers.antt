@@ -1,6 +1,6 @@
-use Rattle.std.proofs.Common.{rules, ◌≡◌, ℕ, ◌+◌, ◌-◌, ◌*◌, ◌<◌, ◌≤◌, arith, false, true}
+use Rattle.std.proofs.Common.{◌≡◌, ◌+◌, ◌-◌, arith, false, true}
 use Rattle.std.proofs.lemmas.Bool.Decides.{nat_tests}
-use Rattle.record_layouts.specs.Overlay.{Area, area_at, is_range}
+use Rattle.record_layouts.specs.Overlay.{is_range}
 use Rattle.record_layouts.proofs.Ranges.{ranges_in-short, ranges_in-none, stands_first}
 use Rattle.record_layouts.proofs.intent.Area.change.Goals as goal
 use Rattle.record_layouts.proofs.intent.Area.change.Goals.{then-frame-ge-FRAMES-via-then-frame-ge-FRAMES, then-frame-ge-FRAMES-via-else-frame-ge-FRAMES+then-first-ge-FRAME, then-frame-ge-FRAMES-via-else-frame-ge-FRAMES+else-first-ge-FRAME+then-count-end}

@@ -1,4 +1,4 @@
-use Rattle.std.proofs.Common.{rules, ◌≡◌, ◌+◌, ◌-◌, ◌∙◌, sym, ap, is_some, arith}
+use Rattle.std.proofs.Common.{◌∙◌, sym, ap, is_some, arith}
 use Rattle.record_layouts.proofs.Ranges.{ranges_in-nothing}
 use Rattle.record_layouts.proofs.intent.Area.holds_ranges.Goals as goal
 

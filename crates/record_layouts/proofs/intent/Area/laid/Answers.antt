@@ -1,5 +1,5 @@
-use Rattle.std.proofs.Common.{◌≡◌, ◌+◌, ◌-◌, ◌<◌, ◌∙◌, sym, ap, arith, if◌then◌else◌}
-use Rattle.record_layouts.specs.Overlay.{Area, area_at, laid, or_none, lies_in, ranges_in, words_from}
+use Rattle.std.proofs.Common.{◌≡◌, ◌+◌, ◌-◌, ◌∙◌, sym, arith, if◌then◌else◌}
+use Rattle.record_layouts.specs.Overlay.{Area, area_at, lies_in}
 use Rattle.record_layouts.proofs.Ranges.{is_some-first, laid-rest, laid-nothing}
 use Rattle.record_layouts.proofs.intent.Area.laid.Goals as goal
 use Rattle.record_layouts.proofs.intent.Area.laid.Goals.{then-contains, else-contains}

@@ -1,5 +1,5 @@
-use Rattle.std.proofs.Common.{rules, ◌≡◌, ◌+◌, ◌-◌, ◌∙◌, sym, arith}
-use Rattle.record_layouts.specs.Overlay.{area_at, intent_seal, words_from}
+use Rattle.std.proofs.Common.{rules, ◌∙◌, sym, arith}
+use Rattle.record_layouts.specs.Overlay.{area_at, intent_seal}
 use Rattle.record_layouts.proofs.Ranges.{seal_from-first, seal_from-none}
 use Rattle.record_layouts.proofs.intent.Area.seal.Goals as goal
 
