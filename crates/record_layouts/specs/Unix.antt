@@ -1,5 +1,5 @@
 -- The state of the Unix that never panics, and the state that a world begins with.
-use Rattle.std.specs.Prelude.{ℕ, ◌+◌, ◌-◌, ◌*◌, ◌/◌, Bool, true, false, nat_lt, nat_le, ◌&&◌, ◌==◌, if◌then◌else◌, List, [], ◌∷◌, length, replicate, slice_get, Option, Some, None, option_and_then}
+use Rattle.std.specs.Prelude.{ℕ, ◌+◌, ◌-◌, ◌*◌, Bool, true, false, nat_lt, nat_le, ◌&&◌, ◌==◌, if◌then◌else◌, List, [], ◌∷◌, length, replicate, slice_get, Option, Some, None, option_and_then}
 use Rattle.ow_base.specs.Words.{byte_of_words}
 use Rattle.ow_base.specs.Pages.{Pages}
 use Rattle.ow_base.specs.World.{page_count}
