@@ -19,3 +19,4 @@ pub mod Exit
 pub mod Overlay
 pub mod Places
 pub mod Patch
+pub mod Held
