@@ -9,3 +9,4 @@ pub mod Lines
 pub mod World
 pub mod Outside
 pub mod Fakes
+pub mod Entries

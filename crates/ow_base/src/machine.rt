@@ -140,6 +140,26 @@ pub enum AreaId {
 #[derive(Clone, Copy, Debug, PartialEq, Eq)]
 pub struct Panicked;
 
+/// The call of a user program is refused: a byte of the range lies in no page with the right to it.
+#[derive(Clone, Copy, Debug, PartialEq, Eq)]
+pub struct Efault;
+
+/// The error that a call of a user program answers, by its number.
+#[derive(Clone, Copy, Debug, PartialEq, Eq)]
+pub struct Errno(pub u32);
+
+/// What a kernel knows of the machine at a moment: the number of the trap that runs or is to come, how many user
+/// frames and data sectors there are, and, of each terminal, how many typed bytes have arrived by that trap and how
+/// many there are in all.
+#[derive(Clone, Copy, Debug, PartialEq, Eq)]
+pub struct Now {
+    pub trap: u32,
+    pub user_frames: u32,
+    pub sectors: u32,
+    pub arrived: [u32; 2],
+    pub typed: [u32; 2],
+}
+
 /// The size of a machine: user frames, data sectors of the disk, instructions in a slice, steps in a run.
 #[derive(Clone, Copy, Debug, PartialEq, Eq)]
 pub struct Shape {
