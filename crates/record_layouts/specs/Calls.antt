@@ -3,7 +3,7 @@ use Rattle.std.specs.Prelude.{ℕ, ◌+◌, ◌-◌, ◌%◌, Bool, true, false,
 use Rattle.ow_base.specs.Words.{wrapped, minus, updated}
 use Rattle.ow_base.specs.UserStep.{register, with_register}
 use Rattle.ow_base.specs.Pages.{is_readable, bytes_at}
-use Rattle.record_layouts.specs.Unix.{Unix, Process, CallState, Out, In, AtKernel, EndedChild, Object, OnFile, OnTty, Description, Terminal}
+use Rattle.record_layouts.specs.Unix.{Unix, Process, CallState, Out, In, AtKernel, EndedChild, Object, OnFile, OnTty, Description, Terminal, in_use}
 
 -- the argument registers, and the register of the call's number
 abbrev pub argument : Process → (index : ℕ) → ℕ
@@ -40,10 +40,11 @@ abbrev pub unless_child_of : (pid : ℕ) → Option EndedChild → Option EndedC
 unless_child_of pid (Some child) = if child.parent == pid then None else Some child
 unless_child_of pid None = None
 
--- a process ends with this status word
+-- a process ends with this status word; a description that it alone named is not in use any more
 unfoldable pub ended_as : Unix → (pid : ℕ) → Process → (status : ℕ) → Unix
 ended_as u pid p status = record u {
   processes = updated u.processes pid None;
+  descriptions = in_use (updated u.processes pid None) u.descriptions;
   exits = updated u.exits pid (Some status);
   ended = λ q. if q == pid then child_of (is_some (u.processes p.parent)) p.parent status else unless_child_of pid (u.ended q);
 }
@@ -105,11 +106,21 @@ write_entry u pid p = write_through u pid p (description_of u p (argument p 0))
 unfoldable pub exit_entry : Unix → (pid : ℕ) → Process → Unix
 exit_entry u pid p = ended_as u pid p (argument p 0 % 256)
 
+-- getpid()
+unfoldable pub getpid_entry : Unix → (pid : ℕ) → Process → Unix
+getpid_entry u pid p = answered u pid p pid
+
+-- yield(): it has no answer, so a0 stays
+unfoldable pub yield_entry : Unix → (pid : ℕ) → Process → Unix
+yield_entry u pid p = with_process u pid (record p { bank = record { pc = wrapped (p.bank.pc + 4); regs = p.bank.regs } })
+
 -- the call with this number; a number that is no call answers ENOSYS 38
 unfoldable pub called : Unix → (pid : ℕ) → Process → (number : ℕ) → Unix
 called u pid p number =
     if number == 1 then exit_entry u pid p else
     if number == 2 then write_entry u pid p else
+    if number == 7 then getpid_entry u pid p else
+    if number == 18 then yield_entry u pid p else
     answered u pid p (minus 38)
 
 -- Enter: the first piece of the call of a process

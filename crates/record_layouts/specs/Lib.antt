@@ -20,3 +20,6 @@ pub mod Overlay
 pub mod Places
 pub mod Patch
 pub mod Held
+pub mod Pages
+pub mod Decode
+pub mod Sound

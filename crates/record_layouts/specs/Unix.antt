@@ -1,5 +1,5 @@
 -- The state of the Unix that never panics, and the state that a world begins with.
-use Rattle.std.specs.Prelude.{ℕ, ◌+◌, ◌-◌, ◌*◌, Bool, true, false, nat_lt, nat_le, ◌&&◌, ◌==◌, if◌then◌else◌, List, [], ◌∷◌, length, replicate, slice_get, Option, Some, None, option_and_then}
+use Rattle.std.specs.Prelude.{ℕ, zero, suc, ◌+◌, ◌-◌, ◌*◌, Bool, true, false, nat_lt, nat_le, ◌&&◌, ◌||◌, ◌==◌, if◌then◌else◌, List, [], ◌∷◌, length, replicate, slice_get, Option, Some, None, option_and_then}
 use Rattle.ow_base.specs.Words.{byte_of_words}
 use Rattle.ow_base.specs.Pages.{Pages}
 use Rattle.ow_base.specs.World.{page_count}
@@ -81,6 +81,28 @@ pub record Unix : Type 0 where
   pub steps : ℕ
   pub traps : ℕ
   pub position : Position
+
+-- one of these descriptors names the description
+abbrev pub is_this : Option ℕ → (number : ℕ) → Bool
+is_this (Some n) number = n == number
+is_this None number = false
+
+unfoldable pub is_among : (number : ℕ) → List (Option ℕ) → Bool
+is_among number [] = false
+is_among number (d ∷ ds) = is_this d number || is_among number ds
+
+abbrev pub is_named_by : (number : ℕ) → Option Process → Bool
+is_named_by number (Some process) = is_among number process.descriptors
+is_named_by number None = false
+
+-- one of so many processes from the first pid on has a descriptor that names the description
+unfoldable pub is_named : (processes : ℕ → Option Process) → (number first count : ℕ) → Bool
+is_named processes number first zero = false
+is_named processes number first (suc count) = is_named_by number (processes first) || is_named processes number (first + 1) count
+
+-- of these descriptions those that are in use: a live process has a descriptor that names them; pids are 1 to 256
+unfoldable pub in_use : (processes : ℕ → Option Process) → (ℕ → Option Description) → ℕ → Option Description
+in_use processes descriptions number = if is_named processes number 1 256 then descriptions number else None
 
 -- the address of the code, and the page numbers of code and stack
 abbrev pub code_start : ℕ
