@@ -1,7 +1,8 @@
 -- The state of the Unix that never panics, what its turns make of it, and which words are a record of which value.
 pub mod Unix
-pub mod Choice
 pub mod Calls
+pub mod Choice
+pub mod Signals
 pub mod Turn
 pub mod Run
 pub mod Report

@@ -3,7 +3,8 @@ use Rattle.std.specs.Prelude.{ℕ, ◌+◌, ◌-◌, nat_lt, ◌==◌, if◌then
 use Rattle.ow_base.specs.UserStep.{Stepped, Next, Call, Faulted, user_step}
 use Rattle.ow_base.specs.Pages.{Pages, page_space}
 use Rattle.record_layouts.specs.Unix.{Unix, Process, Position, AtKernel, AtUser, AtPanic}
-use Rattle.record_layouts.specs.Choice.{chosen, settled, is_any_live}
+use Rattle.record_layouts.specs.Choice.{Keys, no_keys, chosen, deliverable, settled, is_any_live}
+use Rattle.record_layouts.specs.Signals.{signalled}
 use Rattle.record_layouts.specs.Calls.{trapped, with_process, ended_as, entered, piece_of}
 use Rattle.ow_base.specs.declared.machine.Shape.{Shape}
 use Rattle.ow_base.specs.declared.worlds.Ending.{Ending}
@@ -32,24 +33,29 @@ user_turn quantum u pid count None = u
 unfoldable pub idled : Unix → Unix
 idled u = record u { steps = u.steps + 1; traps = u.traps + 1 }
 
--- the piece of a process that is chosen in the kernel, or an idle trap where there is none
-abbrev pub piece_if_live : Unix → (pid : ℕ) → Option Process → Unix
-piece_if_live u pid (Some p) = piece_of u pid p
-piece_if_live u pid None = u
+-- the signal that goes to a process that is chosen in the kernel, else the piece of its call; an idle trap where there
+-- is none
+abbrev pub signal_or_piece : Unix → (pid : ℕ) → Process → (signal : Option ℕ) → Unix
+signal_or_piece u pid p (Some signal) = signalled u pid p signal
+signal_or_piece u pid p None = piece_of u pid p
 
-abbrev pub piece_or_idle : Unix → Option ℕ → Unix
-piece_or_idle u (Some pid) = piece_if_live u pid (u.processes pid)
-piece_or_idle u None = idled u
+abbrev pub served_if_live : Unix → (pid : ℕ) → Option Process → Unix
+served_if_live u pid (Some p) = signal_or_piece u pid p (deliverable p)
+served_if_live u pid None = u
+
+abbrev pub served_or_idle : Unix → Option ℕ → Unix
+served_or_idle u (Some pid) = served_if_live u pid (u.processes pid)
+served_or_idle u None = idled u
 
 -- the turn of a settled state
-unfoldable pub turn_at : (quantum : ℕ) → Unix → Position → Unix
-turn_at quantum u (AtUser pid count) = user_turn quantum u pid count (u.processes pid)
-turn_at quantum u AtKernel = piece_or_idle u (chosen u)
-turn_at quantum u (AtPanic caller) = u
+unfoldable pub turn_at : Keys → (quantum : ℕ) → Unix → Position → Unix
+turn_at keys quantum u (AtUser pid count) = user_turn quantum u pid count (u.processes pid)
+turn_at keys quantum u AtKernel = served_or_idle u (chosen keys u)
+turn_at keys quantum u (AtPanic caller) = u
 
--- Turn
+-- Turn; nothing is typed yet
 unfoldable pub turn : Shape → Unix → Unix
-turn shape u = turn_at shape.quantum (settled u) (settled u).position
+turn shape u = turn_at no_keys shape.quantum (settled no_keys u) (settled no_keys u).position
 
 -- Ends: where no process is live the run is done; else it ends where the steps equal the budget
 unfoldable pub ending_of : Shape → Unix → Option Ending
