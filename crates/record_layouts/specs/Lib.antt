@@ -20,3 +20,4 @@ pub mod Overlay
 pub mod Places
 pub mod Patch
 pub mod Held
+pub mod Reading
