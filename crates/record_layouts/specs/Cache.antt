@@ -1,7 +1,7 @@
 -- The record of an entry of the page cache.
-use Rattle.std.specs.Prelude.{◌≡◌, ℕ, ◌≤◌, ◌⊎◌, List, length, slice_index}
+use Rattle.std.specs.Prelude.{◌≡◌, ℕ, ◌≤◌, ◌⊎◌, Bool, nat_le, ◌==◌, ◌&&◌, ◌||◌, List, length, slice_index, Option}
 use Rattle.ow_base.specs.Seals.{AreWords, IsSealed}
-use Rattle.record_layouts.specs.Spelling.{AreZero}
+use Rattle.record_layouts.specs.Spelling.{AreZero, are_zero, is_sealed_record, only_where}
 use Rattle.record_layouts.specs.declared.cache.CacheRec.{CacheRec}
 
 -- the entry holds no page
@@ -31,3 +31,16 @@ pub record IsCache (words : List ℕ) (entry : CacheRec) : Type 0 where
   pub unused : AreZero words 4 7
   pub fits : FitsCache entry
   pub seal : IsSealed words
+
+-- the fields that words would have as a record, whether they fit, and the value whose record the words are
+abbrev pub cache_fields : (words : List ℕ) → CacheRec
+cache_fields words = record { state = slice_index words 1; file = slice_index words 2; page = slice_index words 3 }
+
+unfoldable pub fits_cache : CacheRec → Bool
+fits_cache entry =
+    (entry.state == 0 && entry.file == 0 && entry.page == 0)
+    || ((entry.state == 1 || entry.state == 2) && nat_le entry.file 31 && nat_le entry.page 63)
+
+unfoldable pub cache_in : (words : List ℕ) → Option CacheRec
+cache_in words =
+    only_where (is_sealed_record 8 0x43414348 words && are_zero words 4 7 && fits_cache (cache_fields words)) (cache_fields words)

@@ -1,7 +1,7 @@
 -- The record of an open description.
-use Rattle.std.specs.Prelude.{◌≡◌, ℕ, ◌≤◌, ◌⊎◌, List, length, slice_index}
+use Rattle.std.specs.Prelude.{◌≡◌, ℕ, ◌≤◌, ◌⊎◌, Bool, nat_le, ◌==◌, ◌&&◌, ◌||◌, List, length, slice_index, Option}
 use Rattle.ow_base.specs.Seals.{AreWords, IsSealed}
-use Rattle.record_layouts.specs.Spelling.{AreZero}
+use Rattle.record_layouts.specs.Spelling.{AreZero, are_zero, is_sealed_record, lies_between, only_where}
 use Rattle.record_layouts.specs.declared.desc.DescRec.{DescRec}
 
 -- it is open to read, to write or for both
@@ -44,3 +44,22 @@ pub record IsDesc (words : List ℕ) (desc : DescRec) : Type 0 where
   pub unused : AreZero words 5 15
   pub fits : FitsDesc desc
   pub seal : IsSealed words
+
+-- the fields that words would have as a record, whether they fit, and the value whose record the words are
+abbrev pub desc_fields : (words : List ℕ) → DescRec
+desc_fields words = record {
+  object = slice_index words 1;
+  index = slice_index words 2;
+  mode = slice_index words 3;
+  offset = slice_index words 4;
+}
+
+unfoldable pub fits_desc : DescRec → Bool
+fits_desc desc =
+    (desc.object == 0 && desc.index == 0 && desc.mode == 0 && desc.offset == 0)
+    || (desc.object == 1 && nat_le desc.index 31 && lies_between 1 3 desc.mode)
+    || (desc.object == 2 && nat_le desc.index 1 && lies_between 1 3 desc.mode && desc.offset == 0)
+
+unfoldable pub desc_in : (words : List ℕ) → Option DescRec
+desc_in words =
+    only_where (is_sealed_record 16 0x4f50454e words && are_zero words 5 15 && fits_desc (desc_fields words)) (desc_fields words)

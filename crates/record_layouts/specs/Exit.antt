@@ -1,7 +1,7 @@
 -- The record of what became of a pid.
-use Rattle.std.specs.Prelude.{◌≡◌, ℕ, ◌≤◌, ◌⊎◌, List, length, slice_index}
+use Rattle.std.specs.Prelude.{◌≡◌, ℕ, ◌≤◌, ◌⊎◌, Bool, nat_le, ◌==◌, ◌&&◌, ◌||◌, List, length, slice_index, Option}
 use Rattle.ow_base.specs.Seals.{AreWords, IsSealed}
-use Rattle.record_layouts.specs.Spelling.{IsStatus}
+use Rattle.record_layouts.specs.Spelling.{IsStatus, is_sealed_record, is_status, only_where}
 use Rattle.record_layouts.specs.declared.exit.ExitRec.{ExitRec}
 
 -- no process has had the pid
@@ -32,3 +32,14 @@ pub record IsExit (words : List ℕ) (exit : ExitRec) : Type 0 where
   pub value : slice_index words 2 ≡ exit.value
   pub fits : FitsExit exit
   pub seal : IsSealed words
+
+-- the fields that words would have as a record, whether they fit, and the value whose record the words are
+abbrev pub exit_fields : (words : List ℕ) → ExitRec
+exit_fields words = record { state = slice_index words 1; value = slice_index words 2 }
+
+unfoldable pub fits_exit : ExitRec → Bool
+fits_exit exit =
+    (exit.state == 0 && exit.value == 0) || (exit.state == 1 && nat_le exit.value 15) || (exit.state == 2 && is_status exit.value)
+
+unfoldable pub exit_in : (words : List ℕ) → Option ExitRec
+exit_in words = only_where (is_sealed_record 4 0x45584954 words && fits_exit (exit_fields words)) (exit_fields words)

@@ -1,9 +1,10 @@
 -- The record of a file.
-use Rattle.std.specs.Prelude.{◌≡◌, ℕ, ◌<◌, ◌≤◌, List, length, take, drop, slice_index, All}
+use Rattle.std.specs.Prelude.{◌≡◌, ℕ, ◌<◌, ◌≤◌, Bool, nat_le, ◌==◌, ◌&&◌, ◌||◌, List, length, take, drop, slice_index, All, Option}
+use Rattle.std.specs.List.{list_all}
 use Rattle.ow_base.specs.World.{IsName}
 use Rattle.ow_base.specs.Seals.{AreWords, IsSealed}
-use Rattle.record_layouts.specs.Spelling.{AreZero}
-use Rattle.record_layouts.specs.Packing.{ArePacked}
+use Rattle.record_layouts.specs.Spelling.{AreZero, are_below, are_zero, is_sealed_record, lies_between, only_where}
+use Rattle.record_layouts.specs.Packing.{ArePacked, unpacked}
 use Rattle.record_layouts.specs.declared.file.FileRec.{FileRec}
 
 -- the state says whether there is a file: where there is none nothing is said, and a file has a name
@@ -36,3 +37,31 @@ pub record IsFile (words : List ℕ) (file : FileRec) : Type 0 where
   pub unused : AreZero words 75 95
   pub fits : FitsFile file
   pub seal : IsSealed words
+
+-- the fields that words would have as a record, whether they fit, and the file whose record the words are
+abbrev pub file_fields : (words : List ℕ) → FileRec
+file_fields words = record {
+  state = slice_index words 1;
+  name_len = slice_index words 2;
+  name = unpacked (take 6 (drop 3 words));
+  size = slice_index words 9;
+  kept = slice_index words 10;
+  sectors = take 64 (drop 11 words);
+}
+
+unfoldable pub is_name : List ℕ → Bool
+is_name name = lies_between 1 24 (length name) && list_all (λ byte. lies_between 33 126 byte) name
+
+unfoldable pub fits_state : FileRec → Bool
+fits_state file =
+    (file.state == 0 && file.name_len == 0 && file.size == 0 && file.kept == 0)
+    || (file.state == 1 && is_name (take file.name_len file.name))
+
+unfoldable pub fits_file : FileRec → Bool
+fits_file file =
+    fits_state file && nat_le file.name_len 24 && are_zero file.name file.name_len 24
+    && nat_le file.kept 64 && are_below 2048 (take file.kept file.sectors) && are_zero file.sectors file.kept 64
+
+unfoldable pub file_in : (words : List ℕ) → Option FileRec
+file_in words =
+    only_where (is_sealed_record 96 0x46494c45 words && are_zero words 75 95 && fits_file (file_fields words)) (file_fields words)

@@ -24,3 +24,4 @@ pub mod Held
 pub mod Pages
 pub mod Decode
 pub mod Sound
+pub mod Reading

@@ -1,8 +1,8 @@
 -- The record of a process.
-use Rattle.std.specs.Prelude.{◌≡◌, ℕ, ◌+◌, ◌*◌, ◌≤◌, ◌⊎◌, List, length, take, drop, slice_index, EachIndex}
+use Rattle.std.specs.Prelude.{◌≡◌, ℕ, ◌+◌, ◌*◌, ◌≤◌, ◌⊎◌, Bool, nat_le, ◌==◌, ◌&&◌, ◌||◌, List, length, take, drop, slice_index, EachIndex, Option}
 use Rattle.ow_base.specs.Seals.{AreWords, IsSealed}
 use Rattle.ow_base.specs.declared.machine.Bank.{Bank}
-use Rattle.record_layouts.specs.Spelling.{AreZero, IsStatus}
+use Rattle.record_layouts.specs.Spelling.{AreZero, IsStatus, are_below, are_zero, is_sealed_record, is_status, lies_between, only_where}
 use Rattle.record_layouts.specs.declared.proc.ProcRec.{ProcRec}
 
 -- the address where the heap begins: on the page behind the code and the data
@@ -106,3 +106,63 @@ pub record IsProc (words : List ℕ) (process : ProcRec) : Type 0 where
   pub unused : AreZero words 117 127
   pub fits : FitsProc process
   pub seal : IsSealed words
+
+-- the registers x1 to x31 and the pc that words would have from `at` on
+abbrev pub bank_in : (words : List ℕ) (at : ℕ) → Bank
+bank_in words at = record { pc = slice_index words (at + 31); regs = take 31 (drop at words) }
+
+-- the fields that words would have as a record
+abbrev pub proc_fields : (words : List ℕ) → ProcRec
+proc_fields words = record {
+  state = slice_index words 1;
+  pid = slice_index words 2;
+  parent = slice_index words 3;
+  call = slice_index words 4;
+  done = slice_index words 5;
+  code_pages = slice_index words 6;
+  data_pages = slice_index words 7;
+  brk = slice_index words 8;
+  procedure = slice_index words 9;
+  mask = slice_index words 10;
+  flags = slice_index words 11;
+  status = slice_index words 12;
+  descs = take 8 (drop 13 words);
+  regs = take 31 (drop 21 words);
+  pc = slice_index words 52;
+  handler_save = bank_in words 53;
+  crash_save = bank_in words 85;
+}
+
+-- whether the fields fit
+unfoldable pub is_blank_bank : Bank → Bool
+is_blank_bank bank = are_zero bank.regs 0 31 && bank.pc == 0
+
+unfoldable pub fits_live : ProcRec → Bool
+fits_live process =
+    lies_between 1 256 process.pid && nat_le process.parent 256 && lies_between 1 64 process.code_pages && nat_le process.data_pages 64
+    && nat_le (heap_start process.code_pages process.data_pages + process.brk) 0x400000
+    && nat_le process.flags 3 && process.status == 0 && are_below 33 process.descs
+
+unfoldable pub is_over : ProcRec → Bool
+is_over process =
+    process.call == 0 && process.done == 0 && process.code_pages == 0 && process.data_pages == 0 && process.brk == 0
+    && process.procedure == 0 && process.mask == 0 && process.flags == 0 && are_zero process.descs 0 8
+    && are_zero process.regs 0 31 && process.pc == 0 && is_blank_bank process.handler_save && is_blank_bank process.crash_save
+
+unfoldable pub fits_free : ProcRec → Bool
+fits_free process = is_over process && process.pid == 0 && process.parent == 0 && process.status == 0
+
+unfoldable pub fits_ended : ProcRec → Bool
+fits_ended process = is_over process && lies_between 1 256 process.pid && nat_le process.parent 256 && is_status process.status
+
+unfoldable pub fits_proc : ProcRec → Bool
+fits_proc process =
+    (process.state == 0 && fits_free process)
+    || (process.state == 1 && fits_live process && process.call == 0 && process.done == 0)
+    || (process.state == 2 && fits_live process)
+    || (process.state == 3 && fits_ended process)
+
+-- the process whose record the words are
+unfoldable pub proc_in : (words : List ℕ) → Option ProcRec
+proc_in words =
+    only_where (is_sealed_record 128 0x50524f43 words && are_zero words 117 127 && fits_proc (proc_fields words)) (proc_fields words)
