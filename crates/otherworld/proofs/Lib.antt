@@ -1,4 +1,5 @@
 -- Lemmas of the program.
+pub mod Uses
 pub mod Services
 pub mod Steps
 pub mod Seeing

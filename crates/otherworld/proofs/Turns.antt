@@ -1,12 +1,12 @@
 -- The turns of the kernel are those of the Unix.
-use Rattle.std.proofs.Common.{◌≡◌, ℕ, zero, suc, ◌+◌, ◌-◌, ◌^◌, ◌<◌, ◌≤◌, Bool, true, false, cond, nat_eq, nat_lt, [], Some, None, MatchBool, refl, ap, sym, subst, ◌∙◌, arith}
+use Rattle.std.proofs.Common.{◌≡◌, ℕ, zero, suc, ◌+◌, ◌-◌, ◌^◌, ◌<◌, ◌≤◌, Bool, true, false, cond, nat_eq, nat_lt, [], Option, Some, None, MatchBool, refl, ap, sym, subst, ◌∙◌, arith}
 use Rattle.std.proofs.lemmas.Grind.{common_steps}
 use Rattle.ow_base.specs.UserStep.{Stepped, Next, Call, Faulted, user_step, register}
 use Rattle.ow_base.specs.Pages.{Pages, page_space}
-use Rattle.record_layouts.specs.Unix.{Unix, Process, Out, In, AtKernel}
-use Rattle.record_layouts.specs.Choice.{chosen, least_from, settled, settled_at, settled_on, returned_as, returned_to as unix_returned_to, is_any_live}
+use Rattle.record_layouts.specs.Unix.{Unix, Process, CallState, Out, In, AtKernel}
+use Rattle.record_layouts.specs.Choice.{no_keys, chosen, deliverable, goes_on as call_goes_on, least_from, settled, settled_at, settled_on, returned_as, returned_to as unix_returned_to, is_any_live}
 use Rattle.record_layouts.specs.Calls.{trapped, entered as call_entered, called, call_number, ended_as, piece_of, continued, tty_write, description_of, piece_by, piece_on, argument}
-use Rattle.record_layouts.specs.Turn.{turn, turn_at, user_turn, stepped, step_of, piece_or_idle, piece_if_live, ending_of, closed}
+use Rattle.record_layouts.specs.Turn.{turn, turn_at, user_turn, stepped, step_of, signal_or_piece, served_or_idle, served_if_live, ending_of, closed}
 use Rattle.record_layouts.specs.Run.{RunsFrom, ends, goes_on}
 use Rattle.ow_base.specs.declared.worlds.Ending.{Ending}
 use Rattle.ow_base.specs.declared.worlds.Ending.TheVariants.{Done, Budget}
@@ -21,14 +21,17 @@ use Rattle.ow_plant.specs.declared.UserEnd.TheVariants as end
 use Rattle.otherworld.specs.declared.kernel_traps.Life.{Life}
 use Rattle.otherworld.specs.declared.kernel_traps.Life.TheVariants.{Outside, Writing, Ended}
 use Rattle.otherworld.specs.declared.kernel_traps.Kernel.{Kernel}
-use Rattle.otherworld.specs.State.{root_frame, unix_of, kernel_in, process_in, the_description, IsMadeBy, IsLive}
+use Rattle.ow_base.specs.Words.{updated}
+use Rattle.otherworld.proofs.Uses.{last_ended, ends_last}
+use Rattle.otherworld.proofs.Answering.{gone}
+use Rattle.otherworld.specs.State.{root_frame, unix_of, only, process_of, kernel_in, process_in, the_description, IsMadeBy, IsLive}
 
 -- the kernel's words when the process is outside a call
 kernel_at : (tty last : ℕ) → Bank → Kernel
 kernel_at tty last b = record { tty = tty; last = last; life = Outside b }
 
 -- the turn of a process in user mode
-at_user : (q : ℕ) (s : PlantState) (tty last : ℕ) (b : Bank) → s.in_user ≡ true → turn_at q (unix_of s (kernel_at tty last b)) (unix_of s (kernel_at tty last b)).position ≡ user_turn q (unix_of s (kernel_at tty last b)) 1 s.slice (Some (process_in Out s.bank (pages_at s.memory)))
+at_user : (q : ℕ) (s : PlantState) (tty last : ℕ) (b : Bank) → s.in_user ≡ true → turn_at no_keys q (unix_of s (kernel_at tty last b)) (unix_of s (kernel_at tty last b)).position ≡ user_turn q (unix_of s (kernel_at tty last b)) 1 s.slice (Some (process_in Out s.bank (pages_at s.memory)))
 unfolding unix_of turn_at kernel_at
 at_user q s tty last b h = rw h refl
 
@@ -49,7 +52,7 @@ next_by s new tty last b true (Faulted fault) h few e f m = absurd (cc m.0)
 next_by s new tty last b true (Next regs pc pages) h few e f m = rw (e, f, h) (grind (arith, common_steps, m))
 
 pub next_turn : (s new : PlantState) (tty last : ℕ) (b : Bank) → s.in_user ≡ true → s.steps < 2 ^ 32 - 1 → TakesTurn s new end.Next
-    → unix_of new (record { tty = tty; last = last; life = Outside b }) ≡ turn_at s.shape.quantum (unix_of s (record { tty = tty; last = last; life = Outside b })) (unix_of s (record { tty = tty; last = last; life = Outside b })).position
+    → unix_of new (record { tty = tty; last = last; life = Outside b }) ≡ turn_at no_keys s.shape.quantum (unix_of s (record { tty = tty; last = last; life = Outside b })) (unix_of s (record { tty = tty; last = last; life = Outside b })).position
 unfolding kernel_at
 next_turn s new tty last b h few taken = next_by s new tty last b _ _ h few refl refl taken ∙ sym (at_user s.shape.quantum s tty last b h)
 
@@ -86,7 +89,7 @@ fault_taken s new fault taken = fault_by s new fault _ _ refl refl taken
 
 -- the end of a slice
 pub slice_turn : (s : PlantState) (tty last : ℕ) (b : Bank) → s.in_user ≡ true → s.steps < 2 ^ 32 - 1 → s.traps < 2 ^ 32 - 1 → nat_lt s.slice s.shape.quantum ≡ false
-    → unix_of (entered s came.User) (kernel_in tty (Outside s.bank)) ≡ turn_at s.shape.quantum (unix_of s (record { tty = tty; last = last; life = Outside b })) (unix_of s (record { tty = tty; last = last; life = Outside b })).position
+    → unix_of (entered s came.User) (kernel_in tty (Outside s.bank)) ≡ turn_at no_keys s.shape.quantum (unix_of s (record { tty = tty; last = last; life = Outside b })) (unix_of s (record { tty = tty; last = last; life = Outside b })).position
 unfolding user_turn kernel_at
 slice_turn s tty last b h steps traps e = traps_user s tty last b came.User refl h steps traps ∙ sym (at_user s.shape.quantum s tty last b h ∙ rw e refl)
 
@@ -94,7 +97,7 @@ slice_turn s tty last b h steps traps e = traps_user s tty last b came.User refl
 pub call_turn : (s new : PlantState) (tty last : ℕ) (b : Bank) (life : Life) → s.in_user ≡ true → s.steps < 2 ^ 32 - 1 → s.traps < 2 ^ 32 - 1 → nat_lt s.slice s.shape.quantum ≡ true
     → user_step page_space s.bank.regs s.bank.pc (pages_at s.memory) ≡ Call
     → IsMadeBy (λ u p. called u 1 p (call_number p)) tty s.bank (entered s came.Call) new life
-    → unix_of new (kernel_in tty life) ≡ turn_at s.shape.quantum (unix_of s (record { tty = tty; last = last; life = Outside b })) (unix_of s (record { tty = tty; last = last; life = Outside b })).position
+    → unix_of new (kernel_in tty life) ≡ turn_at no_keys s.shape.quantum (unix_of s (record { tty = tty; last = last; life = Outside b })) (unix_of s (record { tty = tty; last = last; life = Outside b })).position
 unfolding user_turn stepped step_of call_entered kernel_at
 call_turn s new tty last b life h steps traps e f made =
     made (Outside s.bank) Out tt
@@ -103,22 +106,29 @@ call_turn s new tty last b life h steps traps e f made =
 
 -- a process outside a call ends
 ends_so : (t : PlantState) (tty : ℕ) (b : Bank) (status : ℕ) → unix_of t (kernel_in tty (Ended status)) ≡ ended_as (unix_of t (kernel_in tty (Outside b))) 1 (process_in Out b (pages_at t.memory)) status
-unfolding unix_of ended_as
-ends_so t tty b status = grind (arith, common_steps)
+unfolding unix_of last_ended
+ends_so t tty b status =
+    let made : unix_of t (kernel_in tty (Ended status)) ≡ last_ended (unix_of t (kernel_in tty (Outside b))) 1 (process_in Out b (pages_at t.memory)) status (λ _. None) = grind (arith, common_steps) in
+    made ∙ sym (ends_last (unix_of t (kernel_in tty (Outside b))) 1 (process_in Out b (pages_at t.memory)) status (gone (process_of t (Outside b))))
 
 -- a fault
 pub fault_turn : (s : PlantState) (tty last : ℕ) (b : Bank) (fault : Fault) → s.in_user ≡ true → s.steps < 2 ^ 32 - 1 → s.traps < 2 ^ 32 - 1 → nat_lt s.slice s.shape.quantum ≡ true
     → user_step page_space s.bank.regs s.bank.pc (pages_at s.memory) ≡ Faulted fault
-    → unix_of (entered s came.User) (kernel_in tty (Ended (0x200 + fault.cause))) ≡ turn_at s.shape.quantum (unix_of s (record { tty = tty; last = last; life = Outside b })) (unix_of s (record { tty = tty; last = last; life = Outside b })).position
+    → unix_of (entered s came.User) (kernel_in tty (Ended (0x200 + fault.cause))) ≡ turn_at no_keys s.shape.quantum (unix_of s (record { tty = tty; last = last; life = Outside b })) (unix_of s (record { tty = tty; last = last; life = Outside b })).position
 unfolding user_turn stepped step_of kernel_at
 fault_turn s tty last b fault h steps traps e f =
     ends_so (entered s came.User) tty s.bank (0x200 + fault.cause)
     ∙ ap (λ (u : Unix). ended_as u 1 (process_in Out s.bank (pages_at s.memory)) (0x200 + fault.cause)) (traps_user s tty last b came.User refl h steps traps)
     ∙ sym (at_user s.shape.quantum s tty last b h ∙ rw (e, f) refl)
 
+-- no signal goes to the process
+silent : (call : CallState) (b : Bank) (pages : Pages) → deliverable (process_in call b pages) ≡ None
+unfolding deliverable least_from
+silent call b pages = refl
+
 -- the process is chosen where it is live
-chosen_one : (s : PlantState) (tty last : ℕ) (life : Life) → last ≤ 1 → IsLive life → chosen (unix_of s (record { tty = tty; last = last; life = life })) ≡ Some 1
-unfolding chosen unix_of least_from
+chosen_one : (s : PlantState) (tty last : ℕ) (life : Life) → last ≤ 1 → IsLive life → chosen no_keys (unix_of s (record { tty = tty; last = last; life = life })) ≡ Some 1
+unfolding chosen unix_of least_from deliverable call_goes_on
 chosen_one s tty zero (Outside b) h live = refl
 chosen_one s tty (suc zero) (Outside b) h live = refl
 chosen_one s tty zero (Writing b d) h live = refl
@@ -127,9 +137,9 @@ chosen_one s tty (suc (suc n)) life h live = absurd (omega arith)
 chosen_one s tty last (Ended st) h live = absurd live
 
 -- Settle, where a process is chosen
-settles_by : (u : Unix) (pid : ℕ) (p : Process) → u.position ≡ AtKernel → chosen u ≡ Some pid → u.processes pid ≡ Some p → settled u ≡ returned_as u pid p.call
+settles_by : (u : Unix) (pid : ℕ) (p : Process) → u.position ≡ AtKernel → chosen no_keys u ≡ Some pid → u.processes pid ≡ Some p → settled no_keys u ≡ returned_as u pid (deliverable p) p.call
 unfolding settled
-settles_by u pid p at one live = ap (settled_at u) at ∙ (ap (settled_on u) one ∙ ap (unix_returned_to u pid) live)
+settles_by u pid p at one live = ap (settled_at no_keys u) at ∙ (ap (settled_on u) one ∙ ap (unix_returned_to u pid) live)
 
 in_kernel : (s : PlantState) (k : Kernel) → s.in_user ≡ false → (unix_of s k).position ≡ AtKernel
 unfolding unix_of
@@ -137,28 +147,30 @@ in_kernel s k h = rw h refl
 
 -- control returns to a process outside a call
 pub settles_outside : (s : PlantState) (tty last : ℕ) (b : Bank) → last ≤ 1 → s.in_user ≡ false
-    → settled (unix_of s (record { tty = tty; last = last; life = Outside b })) ≡ unix_of (returned_to s 1 b root_frame) (kernel_in tty (Outside b))
+    → settled no_keys (unix_of s (record { tty = tty; last = last; life = Outside b })) ≡ unix_of (returned_to s 1 b root_frame) (kernel_in tty (Outside b))
 unfolding unix_of
 settles_outside s tty last b h k =
     settles_by (unix_of s (record { tty = tty; last = last; life = Outside b })) 1 (process_in Out b (pages_at s.memory)) (in_kernel s (record { tty = tty; last = last; life = Outside b }) k) (chosen_one s tty last (Outside b) h tt) (rw k refl)
+    ∙ ap (λ signal. returned_as (unix_of s (record { tty = tty; last = last; life = Outside b })) 1 signal Out) (silent Out b (pages_at s.memory))
     ∙ grind (arith, common_steps)
 
 -- one in a call stays in the kernel
 pub settles_writing : (s : PlantState) (tty last : ℕ) (b : Bank) (d : ℕ) → last ≤ 1 → s.in_user ≡ false
-    → settled (unix_of s (record { tty = tty; last = last; life = Writing b d })) ≡ unix_of s (record { tty = tty; last = last; life = Writing b d })
+    → settled no_keys (unix_of s (record { tty = tty; last = last; life = Writing b d })) ≡ unix_of s (record { tty = tty; last = last; life = Writing b d })
 unfolding unix_of
 settles_writing s tty last b d h k =
     settles_by (unix_of s (record { tty = tty; last = last; life = Writing b d })) 1 (process_in (In 2 d) b (pages_at s.memory)) (in_kernel s (record { tty = tty; last = last; life = Writing b d }) k) (chosen_one s tty last (Writing b d) h tt) refl
+    ∙ ap (λ signal. returned_as (unix_of s (record { tty = tty; last = last; life = Writing b d })) 1 signal (In 2 d)) (silent (In 2 d) b (pages_at s.memory))
 
 -- one in user mode goes on
-pub settles_user : (s : PlantState) (k : Kernel) → s.in_user ≡ true → settled (unix_of s k) ≡ unix_of s k
+pub settles_user : (s : PlantState) (k : Kernel) → s.in_user ≡ true → settled no_keys (unix_of s k) ≡ unix_of s k
 unfolding settled unix_of
 settles_user s k h = rw h refl
 
 -- the turn of a chosen process that is in a call
-at_kernel_by : (q : ℕ) (u : Unix) (p : Process) (number done : ℕ) → chosen u ≡ Some 1 → u.processes 1 ≡ Some p → p.call ≡ In number done → turn_at q u AtKernel ≡ continued (trapped u 1) 1 p number done
+at_kernel_by : (q : ℕ) (u : Unix) (p : Process) (number done : ℕ) → chosen no_keys u ≡ Some 1 → u.processes 1 ≡ Some p → deliverable p ≡ None → p.call ≡ In number done → turn_at no_keys q u AtKernel ≡ continued (trapped u 1) 1 p number done
 unfolding turn_at piece_of
-at_kernel_by q u p number done one live call = ap (piece_or_idle u) one ∙ (ap (piece_if_live u 1) live ∙ ap (piece_by u 1 p) call)
+at_kernel_by q u p number done one live silent call = ap (served_or_idle u) one ∙ (ap (served_if_live u 1) live ∙ (ap (signal_or_piece u 1 p) silent ∙ ap (piece_by u 1 p) call))
 
 one : (s : PlantState) (tty last : ℕ) (b : Bank) (done : ℕ) → (unix_of s (record { tty = tty; last = last; life = Writing b done })).processes 1 ≡ Some (process_in (In 2 done) b (pages_at s.memory))
 unfolding unix_of
@@ -172,9 +184,9 @@ traps_kernel s tty last done b h steps traps = rw h (grind (arith, common_steps)
 
 -- the turn of a process in a call
 at_kernel : (q : ℕ) (s : PlantState) (tty last : ℕ) (b : Bank) (done : ℕ) → last ≤ 1
-    → turn_at q (unix_of s (record { tty = tty; last = last; life = Writing b done })) AtKernel ≡ continued (trapped (unix_of s (record { tty = tty; last = last; life = Writing b done })) 1) 1 (process_in (In 2 done) b (pages_at s.memory)) 2 done
+    → turn_at no_keys q (unix_of s (record { tty = tty; last = last; life = Writing b done })) AtKernel ≡ continued (trapped (unix_of s (record { tty = tty; last = last; life = Writing b done })) 1) 1 (process_in (In 2 done) b (pages_at s.memory)) 2 done
 at_kernel q s tty last b done h =
-    at_kernel_by q (unix_of s (record { tty = tty; last = last; life = Writing b done })) (process_in (In 2 done) b (pages_at s.memory)) 2 done (chosen_one s tty last (Writing b done) h tt) (one s tty last b done) refl
+    at_kernel_by q (unix_of s (record { tty = tty; last = last; life = Writing b done })) (process_in (In 2 done) b (pages_at s.memory)) 2 done (chosen_one s tty last (Writing b done) h tt) (one s tty last b done) (silent (In 2 done) b (pages_at s.memory)) refl
 
 -- a further piece of a write on a descriptor that is open on a terminal
 continues_by : (u : Unix) (p : Process) (tty done : ℕ) → description_of u p (argument p 0) ≡ the_description tty 0 → continued u 1 p 2 done ≡ tty_write u 1 p tty done
@@ -185,7 +197,7 @@ continues_by u p tty done d = ap (piece_on u 1 p done) d
 pub piece_turn : (s new : PlantState) (tty last done : ℕ) (b : Bank) (life : Life) → last ≤ 1 → s.in_user ≡ false → s.steps < 2 ^ 32 - 1 → s.traps < 2 ^ 32 - 1
     → (description_of (unix_of (entered s came.Kernel) (kernel_in tty (Writing b done))) (process_in (In 2 done) b (pages_at s.memory)) (register b.regs 10) ≡ the_description tty 0)
     → IsMadeBy (λ u p. tty_write u 1 p tty done) tty b (entered s came.Kernel) new life
-    → unix_of new (kernel_in tty life) ≡ turn_at s.shape.quantum (unix_of s (record { tty = tty; last = last; life = Writing b done })) AtKernel
+    → unix_of new (kernel_in tty life) ≡ turn_at no_keys s.shape.quantum (unix_of s (record { tty = tty; last = last; life = Writing b done })) AtKernel
 piece_turn s new tty last done b life h k steps traps d made =
     made (Writing b done) (In 2 done) tt
     ∙ sym (continues_by (unix_of (entered s came.Kernel) (kernel_in tty (Writing b done))) (process_in (In 2 done) b (pages_at s.memory)) tty done d)
@@ -193,9 +205,9 @@ piece_turn s new tty last done b life h k steps traps d made =
     ∙ sym (at_kernel s.shape.quantum s tty last b done h)
 
 -- Turn, by the settled state
-pub turn_settled : (shape : Shape) (u v : Unix) → settled u ≡ v → turn shape u ≡ turn_at shape.quantum v v.position
+pub turn_settled : (shape : Shape) (u v : Unix) → settled no_keys u ≡ v → turn shape u ≡ turn_at no_keys shape.quantum v v.position
 unfolding turn
-turn_settled shape u v e = ap (λ (w : Unix). turn_at shape.quantum w w.position) e
+turn_settled shape u v e = ap (λ (w : Unix). turn_at no_keys shape.quantum w w.position) e
 
 pub in_kernel_at : (s : PlantState) (k : Kernel) → s.in_user ≡ false → (unix_of s k).position ≡ AtKernel
 in_kernel_at = in_kernel

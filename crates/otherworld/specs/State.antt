@@ -86,6 +86,12 @@ terminals_of s tty = if tty == 0 then terminal_of s.tty0 else if tty == 1 then t
 abbrev pub the_description : (tty number : ℕ) → Option Description
 the_description tty number = if number == 0 then Some (record { object = OnTty tty; reads = true; writes = true; offset = 0 }) else None
 
+-- it is in use until the process ends
+abbrev pub descriptions_of : (tty : ℕ) → Life → ℕ → Option Description
+descriptions_of tty (Outside bank) = the_description tty
+descriptions_of tty (Writing bank done) = the_description tty
+descriptions_of tty (Ended status) = λ _. None
+
 abbrev pub position_of : PlantState → Position
 position_of s = if s.in_user then AtUser 1 s.slice else AtKernel
 
@@ -94,7 +100,7 @@ unfoldable pub unix_of : PlantState → Kernel → Unix
 unix_of s k = record {
   processes = only (process_of s k.life);
   ended = λ _. None;
-  descriptions = the_description k.tty;
+  descriptions = descriptions_of k.tty k.life;
   files = λ _. None;
   terminals = terminals_of s;
   exits = only (exit_of k.life);
@@ -150,6 +156,10 @@ number_of NoCall = 38
 -- what becomes of a process whose call is answered: the answer is in a0, and pc is behind the call
 abbrev pub answered_life : Bank → (answer : ℕ) → Life
 answered_life bank answer = Outside (record { pc = wrapped (bank.pc + 4); regs = with_register bank.regs 10 answer })
+
+-- of one whose call has no answer
+abbrev pub yielded_life : Bank → Life
+yielded_life bank = Outside (record { pc = wrapped (bank.pc + 4); regs = bank.regs })
 
 -- of a write that is stopped, and of one that has a piece more
 abbrev pub stopped_life : Bank → (done error : ℕ) → Life

@@ -2,12 +2,13 @@ ghost use Rattle.std.specs.Prelude.{◌≡◌, ℕ, ◌+◌, ◌^◌, ◌<◌, �
 ghost use Rattle.ow_base.specs.Pages.{is_readable, bytes_at};
 ghost use Rattle.ow_base.specs.Words.{minus};
 ghost use Rattle.record_layouts.specs.Unix.{AtKernel};
+ghost use Rattle.record_layouts.specs.Choice.{no_keys};
 ghost use Rattle.record_layouts.specs.Calls.{tty_write, write_entry as write_entered, called, call_number};
 ghost use Rattle.record_layouts.specs.Turn.{turn, turn_at, closed};
 ghost use Rattle.ow_base.specs.Pages.{rights_at};
 ghost use Rattle.ow_plant.specs.State.{entered, tty_of};
 ghost use Rattle.sv32_tables.specs.Spaces.{satp_of};
-ghost use Rattle.otherworld.specs.State.{root_frame, pages_at, HasPages, TakesTurn, with_puts, unix_of, kernel_in, IsServed, IsInService, IsWriting, IsMadeBy, answered_life, stopped_life, written_life, number_of, IsSound, IsTurned, IsLive, IsClosed};
+ghost use Rattle.otherworld.specs.State.{root_frame, pages_at, HasPages, TakesTurn, with_puts, unix_of, kernel_in, IsServed, IsInService, IsWriting, IsMadeBy, answered_life, yielded_life, stopped_life, written_life, number_of, IsSound, IsTurned, IsLive, IsClosed};
 
 use crate::boot::ROOT_FRAME;
 use arrayvec::ArrayVec;
@@ -37,6 +38,10 @@ const LAST_DESCRIPTOR: u32 = 2;
 const EXIT: u32 = 1;
 
 const WRITE: u32 = 2;
+
+const GETPID: u32 = 7;
+
+const YIELD: u32 = 18;
 
 /// The status word of a fault is this and its cause.
 pub const FAULT: u32 = 0x200;
@@ -164,6 +169,16 @@ fn answered(bank: &Bank, answer: u32) -> Life
     })
 }
 
+/// The process after a call that has no answer: pc is behind the call.
+fn yielded(bank: &Bank) -> Life
+    ensures { result ≡ yielded_life bank.now }
+{
+    Life::Outside(Bank {
+        pc: bank.pc.wrapping_add(4),
+        regs: bank.regs,
+    })
+}
+
 /// The process after a piece of its write was stopped: the bytes done are the answer, or the error where
 /// there are none.
 fn stopped(bank: &Bank, done: u32, errno: Errno) -> Life
@@ -231,6 +246,8 @@ fn serve_call(plant: &mut Plant, tty: u32, bank: &Bank) -> Result<Life, Panicked
     match bank.regs.get(17) {
         EXIT => Ok(Life::Ended(bank.regs.get(10) % 256)),
         WRITE => write_entry(plant, tty, bank),
+        GETPID => Ok(answered(bank, PID)),
+        YIELD => Ok(yielded(bank)),
         _ => Ok(answered(bank, Errno::NoCall.answer())),
     }
 }
@@ -264,7 +281,7 @@ fn user_turn(plant: &mut Plant, kernel: &mut Kernel) -> Result<(), Panicked>
     requires in_user { plant.old.in_user ≡ true }
     requires budget { plant.old.steps < plant.old.shape.budget }
     ensures ok { IsOk result }
-    ensures turn { unix_of plant.new kernel.new ≡ turn_at plant.old.shape.quantum (unix_of plant.old kernel.old) (unix_of plant.old kernel.old).position }
+    ensures turn { unix_of plant.new kernel.new ≡ turn_at no_keys plant.old.shape.quantum (unix_of plant.old kernel.old) (unix_of plant.old kernel.old).position }
     ensures turned { IsTurned plant.old plant.new kernel.new }
 {
     match user_step(plant) {
@@ -298,7 +315,7 @@ fn piece_turn(
     requires writing { kernel.old.life ≡ Life.Writing bank.now done }
     requires budget { plant.old.steps < plant.old.shape.budget }
     ensures ok { IsOk result }
-    ensures turn { unix_of plant.new kernel.new ≡ turn_at plant.old.shape.quantum (unix_of plant.old kernel.old) AtKernel }
+    ensures turn { unix_of plant.new kernel.new ≡ turn_at no_keys plant.old.shape.quantum (unix_of plant.old kernel.old) AtKernel }
     ensures turned { IsTurned plant.old plant.new kernel.new }
 {
     plant.enter(Came::Kernel, PID);

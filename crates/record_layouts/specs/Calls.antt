@@ -112,7 +112,7 @@ getpid_entry u pid p = answered u pid p pid
 
 -- yield(): it has no answer, so a0 stays
 unfoldable pub yield_entry : Unix → (pid : ℕ) → Process → Unix
-yield_entry u pid p = with_process u pid (record p { bank = record { pc = wrapped (p.bank.pc + 4); regs = p.bank.regs } })
+yield_entry u pid p = with_process u pid (record p { call = Out; bank = record { pc = wrapped (p.bank.pc + 4); regs = p.bank.regs } })
 
 -- the call with this number; a number that is no call answers ENOSYS 38
 unfoldable pub called : Unix → (pid : ℕ) → Process → (number : ℕ) → Unix

@@ -23,7 +23,7 @@ returns-clause-turn c =
     let made = rw c.enter.ensures at c.in_ok-kernel.ensures.made in
     let few : s.steps < 2 ^ 32 - 1 = omega (arith, c.requires.sound.small) in
     let few_traps : s.traps < 2 ^ 32 - 1 = omega (arith, c.requires.sound.few_traps) in
-    let fd = description_of-open (entered s came.Kernel) k.tty (Writing b c.args.done) (In 2 c.args.done) b (pages_at s.memory) (register b.regs 10) alive.1.descriptor in
+    let fd = description_of-open (entered s came.Kernel) k.tty (Writing b c.args.done) (In 2 c.args.done) b (pages_at s.memory) (register b.regs 10) alive.1.descriptor tt in
     rw (c.leave.ensures.same, kernel) (piece_turn s c.write_piece.new.plant k.tty k.last c.args.done b life c.requires.sound.last alive.0 few few_traps fd made)
 
 pub returns-clause-turned : goal.returns-clause-turned

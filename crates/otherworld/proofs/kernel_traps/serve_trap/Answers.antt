@@ -1,6 +1,6 @@
 use Rattle.std.proofs.Common.{◌≡◌, ap, sym, ◌∙◌, false}
 use Rattle.record_layouts.specs.Turn.{turn_at}
-use Rattle.record_layouts.specs.Choice.{settled}
+use Rattle.record_layouts.specs.Choice.{no_keys, settled}
 use Rattle.record_layouts.specs.Unix.{Position}
 use Rattle.ow_plant.specs.State.{returned_to}
 use Rattle.otherworld.specs.declared.kernel_traps.Kernel.{Kernel}
@@ -22,7 +22,7 @@ returns-in-Outside-clause-turn c =
     let b = c.in-Outside.bank in
     let idle : s.in_user ≡ false = sym c.in_user.ensures ∙ c.if-in_user.false in
     let kernel : k ≡ record { tty = k.tty; last = k.last; life = Outside b } = ap (λ (l : Life). record { tty = k.tty; last = k.last; life = l }) c.in-Outside.is in
-    let settle : settled (unix_of s k) ≡ unix_of (returned_to s 1 b root_frame) (kernel_in k.tty (Outside b)) = ap (λ (m : Kernel). settled (unix_of s m)) kernel ∙ settles_outside s k.tty k.last b c.requires.sound.last idle in
+    let settle : settled no_keys (unix_of s k) ≡ unix_of (returned_to s 1 b root_frame) (kernel_in k.tty (Outside b)) = ap (λ (m : Kernel). settled no_keys (unix_of s m)) kernel ∙ settles_outside s k.tty k.last b c.requires.sound.last idle in
     let turned = rw (c.to_user.ensures, c.in-Outside.is) at c.user_turn-in-Outside.ensures.turn in
     turned ∙ sym (turn_settled s.shape (unix_of s k) (unix_of (returned_to s 1 b root_frame) (kernel_in k.tty (Outside b))) settle)
 
@@ -34,5 +34,5 @@ returns-in-Writing-clause-turn c =
     let d = c.in-Writing.done in
     let idle : s.in_user ≡ false = sym c.in_user.ensures ∙ c.if-in_user.false in
     let kernel : k ≡ record { tty = k.tty; last = k.last; life = Writing b d } = ap (λ (l : Life). record { tty = k.tty; last = k.last; life = l }) c.in-Writing.is in
-    let settle : settled (unix_of s k) ≡ unix_of s k = ap (λ (m : Kernel). settled (unix_of s m)) kernel ∙ (settles_writing s k.tty k.last b d c.requires.sound.last idle ∙ sym (ap (λ (m : Kernel). unix_of s m) kernel)) in
-    c.piece_turn.ensures.turn ∙ sym (turn_settled s.shape (unix_of s k) (unix_of s k) settle ∙ ap (λ (p : Position). turn_at s.shape.quantum (unix_of s k) p) (in_kernel_at s k idle))
+    let settle : settled no_keys (unix_of s k) ≡ unix_of s k = ap (λ (m : Kernel). settled no_keys (unix_of s m)) kernel ∙ (settles_writing s k.tty k.last b d c.requires.sound.last idle ∙ sym (ap (λ (m : Kernel). unix_of s m) kernel)) in
+    c.piece_turn.ensures.turn ∙ sym (turn_settled s.shape (unix_of s k) (unix_of s k) settle ∙ ap (λ (p : Position). turn_at no_keys s.shape.quantum (unix_of s k) p) (in_kernel_at s k idle))

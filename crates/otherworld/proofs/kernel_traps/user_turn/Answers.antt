@@ -1,5 +1,6 @@
 use Rattle.std.proofs.Common.{◌≡◌, ◌<◌, ◌^◌, ◌-◌, ◌+◌, ap, ◌∙◌, arith}
 use Rattle.record_layouts.specs.Turn.{turn_at}
+use Rattle.record_layouts.specs.Choice.{no_keys}
 use Rattle.record_layouts.specs.Calls.{called, call_number}
 use Rattle.ow_plant.specs.State.{PlantState, entered}
 use Rattle.ow_base.specs.declared.machine.Came.TheVariants as came
@@ -20,7 +21,7 @@ returns-in-Next-clause-turn c =
     let s = c.args.plant.now in
     let new = c.user_step.new.plant in
     let few : s.steps < 2 ^ 32 - 1 = omega (arith, c.requires.sound.small) in
-    by_outside (λ (k : Kernel). unix_of new k ≡ turn_at s.shape.quantum (unix_of s k) (unix_of s k).position) s c.args.kernel.now c.requires.in_user c.requires.sound.life
+    by_outside (λ (k : Kernel). unix_of new k ≡ turn_at no_keys s.shape.quantum (unix_of s k) (unix_of s k).position) s c.args.kernel.now c.requires.in_user c.requires.sound.life
     (λ tty last b. next_turn s new tty last b c.requires.in_user few c.in-Next.ensures)
 
 pub returns-in-Next-clause-turned : goal.returns-in-Next-clause-turned
@@ -34,7 +35,7 @@ returns-in-Slice-clause-turn c =
     let kernel : c.begin_trap.new.kernel ≡ kernel_in c.args.kernel.now.tty (Outside s.bank) = c.begin_trap.ensures.kernel ∙ ap (λ (t : PlantState). kernel_in c.args.kernel.now.tty (Outside t.bank)) kept.1 in
     let few : s.steps < 2 ^ 32 - 1 = omega (arith, c.requires.sound.small) in
     let few_traps : s.traps < 2 ^ 32 - 1 = omega (arith, c.requires.sound.few_traps) in
-    rw (plant, kernel) (by_outside (λ (k : Kernel). unix_of (entered s came.User) (kernel_in k.tty (Outside s.bank)) ≡ turn_at s.shape.quantum (unix_of s k) (unix_of s k).position) s c.args.kernel.now c.requires.in_user c.requires.sound.life
+    rw (plant, kernel) (by_outside (λ (k : Kernel). unix_of (entered s came.User) (kernel_in k.tty (Outside s.bank)) ≡ turn_at no_keys s.shape.quantum (unix_of s k) (unix_of s k).position) s c.args.kernel.now c.requires.in_user c.requires.sound.life
     (λ tty last b. slice_turn s tty last b c.requires.in_user few few_traps kept.0))
 
 pub returns-in_ok-kernel-in-Call-clause-turn : goal.returns-in_ok-kernel-in-Call-clause-turn
@@ -50,7 +51,7 @@ returns-in_ok-kernel-in-Call-clause-turn c =
     let made = rw (tty, bank, plant) at c.in_ok-kernel-in-Call.ensures.made in
     let few : s.steps < 2 ^ 32 - 1 = omega (arith, c.requires.sound.small) in
     let few_traps : s.traps < 2 ^ 32 - 1 = omega (arith, c.requires.sound.few_traps) in
-    rw (c.leave-in-Call.ensures.same, tty, last) (by_outside (λ (k : Kernel). IsMadeBy (λ u p. called u 1 p (call_number p)) k.tty s.bank (entered s came.Call) c.serve_call.new.plant life → unix_of c.serve_call.new.plant (kernel_in k.tty life) ≡ turn_at s.shape.quantum (unix_of s k) (unix_of s k).position) s c.args.kernel.now c.requires.in_user c.requires.sound.life
+    rw (c.leave-in-Call.ensures.same, tty, last) (by_outside (λ (k : Kernel). IsMadeBy (λ u p. called u 1 p (call_number p)) k.tty s.bank (entered s came.Call) c.serve_call.new.plant life → unix_of c.serve_call.new.plant (kernel_in k.tty life) ≡ turn_at no_keys s.shape.quantum (unix_of s k) (unix_of s k).position) s c.args.kernel.now c.requires.in_user c.requires.sound.life
     (λ tty last b m. call_turn s c.serve_call.new.plant tty last b life c.requires.in_user few few_traps kept.0 kept.1 m) made)
 
 pub returns-in_ok-kernel-in-Call-clause-turned : goal.returns-in_ok-kernel-in-Call-clause-turned
@@ -75,5 +76,5 @@ returns-in-Fault-clause-turn c =
     let last : c.begin_trap-in-Fault.new.kernel.last ≡ 1 = ap (λ (k : Kernel). k.last) kernel in
     let few : s.steps < 2 ^ 32 - 1 = omega (arith, c.requires.sound.small) in
     let few_traps : s.traps < 2 ^ 32 - 1 = omega (arith, c.requires.sound.few_traps) in
-    rw (plant, tty, last) (by_outside (λ (k : Kernel). unix_of (entered s came.User) (kernel_in k.tty (Ended (0x200 + c.in-Fault.fault.cause))) ≡ turn_at s.shape.quantum (unix_of s k) (unix_of s k).position) s c.args.kernel.now c.requires.in_user c.requires.sound.life
+    rw (plant, tty, last) (by_outside (λ (k : Kernel). unix_of (entered s came.User) (kernel_in k.tty (Ended (0x200 + c.in-Fault.fault.cause))) ≡ turn_at no_keys s.shape.quantum (unix_of s k) (unix_of s k).position) s c.args.kernel.now c.requires.in_user c.requires.sound.life
     (λ tty last b. fault_turn s tty last b c.in-Fault.fault c.requires.in_user few few_traps kept.0 kept.1))
