@@ -115,6 +115,21 @@ fn programs_end_as_their_rows_say(rt: HostRuntime) -> Result<(), Fail> {
             "done\nsteps 4\ntraps 3\nexit 1 code 218",
             SILENT,
         ),
+        // getpid, and a yield, which leaves a0
+        (
+            usual,
+            "00700893 00000073 00100893 00000073",
+            Status::Done,
+            "done\nsteps 4\ntraps 3\nexit 1 code 1",
+            SILENT,
+        ),
+        (
+            usual,
+            "00900513 01200893 00000073 00100893 00000073",
+            Status::Done,
+            "done\nsteps 5\ntraps 3\nexit 1 code 9",
+            SILENT,
+        ),
         // a write that starts in the last byte of the address space
         (
             usual,
