@@ -1,5 +1,5 @@
 -- The tests by which words are read, and what they decide.
-use Rattle.std.proofs.Common.{◌≡◌, ℕ, ◌+◌, ◌-◌, ◌^◌, ◌<◌, ◌≤◌, Bool, true, nat_lt, ◌==◌, ◌&&◌, List, length, slice_index, take, drop, get_or, All, Option, Some, refl, sym, ◌∙◌, ap, subst, arith, inl, inr}
+use Rattle.std.proofs.Common.{◌≡◌, ℕ, ◌+◌, ◌-◌, ◌^◌, ◌<◌, ◌≤◌, Bool, true, nat_lt, ◌==◌, ◌&&◌, List, length, slice_index, take, drop, get_or, All, Option, Some, None, refl, sym, ◌∙◌, ap, subst, arith, inl, inr}
 use Rattle.std.proofs.lemmas.Grind.{common_steps}
 use Rattle.std.proofs.lemmas.Bool.{cases_lt, cases_Bool}
 use Rattle.std.proofs.lemmas.Bool.Decides.{nat_tests, Decides-and, Decides-by_and, Decides-eqb, Decides-like, Decides-ltb}
@@ -85,3 +85,8 @@ module _ {A : Type 0} (P : A → Type 0) (test : Bool) (value : A) (decides : De
     | inl holds ↦ (let same : value ≡ a = (let e2 = rw holds at e in cc) in subst P same (decides.0 holds))
     | inr fails ↦ (let e2 = rw fails at e in cc)
   ]
+
+-- where nothing can be read there is nothing
+pub reads_none : {A : Type 0} (P : A → Type 0) (read : Option A) → ((a : A) → read ≡ Some a → P a) → ((a : A) → P a → ⊥) → None ≡ read
+reads_none P (Some a) is none = absurd (none a (is a refl))
+reads_none P None is none = refl
