@@ -3,7 +3,7 @@
 //! An intent changes words of several records at once. Its payload is a list of ranges: of each the frame and the place
 //! of its first word, how many words there are, and what they become. The gate tells how many words of payload there
 //! are; the block's last word is the seal of the gate and of these.
-ghost use Rattle.std.specs.Prelude.{◌≡◌, ℕ, ◌+◌, ◌-◌, ◌*◌, ◌^◌, ◌<◌, ◌≤◌, true, IfSome, IfNone, None, is_some};
+ghost use Rattle.std.specs.Prelude.{◌≡◌, ℕ, ◌+◌, ◌-◌, ◌*◌, ◌^◌, ◌<◌, ◌≤◌, true, IfSome, IfNone, None, is_some, length};
 ghost use Rattle.record_layouts.specs.Overlay.{EndsOpen, StandsFirst, area_at, gate_of, intent_seal, is_within, laid, lies_in, may_change, open_ranges, or_none, overlay, ranges_in, values_end, words_from};
 
 use crate::places::FRAME;
@@ -138,12 +138,33 @@ impl<W: WordSource> Area<'_, W> {
     }
 
     /// The word of this number, with a valid open intent laid over it.
-    #[tactic(auto, unfolding(crate::specs::Overlay::overlay, crate::specs::Overlay::laid))]
     pub(crate) fn overlaid(&self, number: u32) -> u32
-        requires number { number < 65536 }
+        requires { number < 65536 }
         ensures { result ≡ overlay (area_at (W.words self.now.source.now) self.now.base) number }
     {
-        match self.open_end() {
+        self.shown(self.open_end(), number)
+    }
+
+    /// Fills `words` with those from the number `first` on, with a valid open intent laid over them.
+    pub(crate) fn read(&self, first: u32, words: &mut [u32])
+        requires { first + length words.old ≤ 65536 }
+        ensures { words.new ≡ words_from (overlay (area_at (W.words self.now.source.now) self.now.base)) first (length words.old) }
+    {
+        let end = self.open_end();
+        for (k, word) in words.iter_mut().enumerate() {
+            *word = self.shown(end, first + k as u32);
+        }
+    }
+
+    // The word of this number, with the intent laid over it whose payload ends at `end`, or as it is if none is open.
+    #[tactic(auto, unfolding(crate::specs::Overlay::overlay, crate::specs::Overlay::laid))]
+    fn shown(&self, end: Option<u32>, number: u32) -> u32
+        requires number { number < 65536 }
+        requires open { IfSome end (EndsOpen (area_at (W.words self.now.source.now) self.now.base)) }
+        requires closed { IfNone end (open_ranges (area_at (W.words self.now.source.now) self.now.base) ≡ None) }
+        ensures { result ≡ overlay (area_at (W.words self.now.source.now) self.now.base) number }
+    {
+        match end {
             Some(end) => self.laid(end, number),
             None => self.word(number),
         }
