@@ -3,7 +3,7 @@ use Rattle.std.proofs.Common.{◌≡◌, ℕ, Bool, true, ◌&&◌, ◌==◌, na
 use Rattle.std.proofs.lemmas.Bool.Decides.{Decides-and, Decides-eqb, Decides-like, Decides-ltb}
 use Rattle.std.specs.Bool.{Decides}
 use Rattle.record_layouts.specs.Spelling.{AreZero, are_zero, is_sealed_record, only_where}
-use Rattle.record_layouts.proofs.Tests.{IsSealedRecord, decides_between, decides_sealed_record, decides_status, decides_zero, one_read, reads_one}
+use Rattle.record_layouts.specs.Tests.{IsSealedRecord, decides_between, decides_sealed_record, decides_status, decides_zero, one_read, reads_one}
 use Rattle.record_layouts.specs.declared.head.HeadRec.{HeadRec}
 use Rattle.record_layouts.specs.Head.{FitsHead, IsHead, fits_head, head_fields, head_in}
 use Rattle.record_layouts.specs.declared.sig.SigRec.{SigRec}
@@ -25,7 +25,7 @@ use Rattle.record_layouts.specs.declared.proc.ProcRec.{ProcRec}
 use Rattle.record_layouts.specs.Proc.{FitsProc, IsBankAt, IsProc, bank_in, fits_proc, proc_fields, proc_in}
 use Rattle.record_layouts.proofs.PackedBytes.{are_unpacked, one_reading}
 use Rattle.record_layouts.proofs.Files.{one_file}
-use Rattle.record_layouts.proofs.Fitting.{fits_exit-decides, fits_file-decides, fits_proc-decides, fits_head-decides, fits_sig-decides, fits_desc-decides, fits_cache-decides, fits_term-decides}
+use Rattle.record_layouts.specs.Fitting.{fits_exit-decides, fits_file-decides, fits_proc-decides, fits_head-decides, fits_sig-decides, fits_desc-decides, fits_cache-decides, fits_term-decides}
 
 -- the three tests of most kinds of record
 module _ (count kind first end : ℕ) (words : List ℕ) (Fits : Type 0) (fits : Bool) (decides : Decides fits Fits) where

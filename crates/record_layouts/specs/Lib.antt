@@ -21,3 +21,6 @@ pub mod Places
 pub mod Patch
 pub mod Held
 pub mod Reading
+pub mod Tests
+pub mod Fitting
+pub mod Values

@@ -79,3 +79,99 @@ impl<W: WordSource> WordSource for AreaView<'_, W> {
         self.source.load(frame, word)
     }
 }
+
+#[tactic(auto, unfolding(crate::specs::Reading::records_of, crate::specs::Reading::records_in))]
+impl<W: WordSource> RecordView for AreaView<'_, W> {
+    ghost use Rattle.record_layouts.specs.Reading.{records_of};
+    ghost use Rattle.record_layouts.specs.Values.{are_values};
+
+    ghost records = { λ v. records_of v.map (W.words v.source.now) };
+
+    ghost values = { λ view. are_values view.map (W.words view.source.now) };
+
+    fn head(&self) -> Option<HeadRec> {
+        if self.area().gate() == Gate::Broken {
+            return None;
+        }
+        let mut words = [0; 16];
+        self.read(RecordId::Head, &mut words);
+        HeadRec::from_words(&words)
+    }
+
+    fn proc(&self, slot: u32) -> Option<ProcRec> {
+        let mut words = [0; 128];
+        self.read(RecordId::Proc(slot), &mut words);
+        ProcRec::from_words(&words)
+    }
+
+    fn sig(&self, slot: u32) -> Option<SigRec> {
+        let mut words = [0; 32];
+        self.read(RecordId::Sig(slot), &mut words);
+        SigRec::from_words(&words)
+    }
+
+    fn desc(&self, i: u32) -> Option<DescRec> {
+        let mut words = [0; 16];
+        self.read(RecordId::Desc(i), &mut words);
+        DescRec::from_words(&words)
+    }
+
+    fn file(&self, i: u32) -> Option<FileRec> {
+        let mut words = [0; 96];
+        self.read(RecordId::File(i), &mut words);
+        FileRec::from_words(&words)
+    }
+
+    fn cache(&self, i: u32) -> Option<CacheRec> {
+        let mut words = [0; 8];
+        self.read(RecordId::Cache(i), &mut words);
+        CacheRec::from_words(&words)
+    }
+
+    fn term(&self, tty: u32) -> Option<TermRec> {
+        let mut words = [0; 16];
+        self.read(RecordId::Term(tty), &mut words);
+        TermRec::from_words(&words)
+    }
+
+    fn row(&self, i: u32) -> Option<RowRec> {
+        let mut words = [0; 24];
+        self.read(RecordId::Row(i), &mut words);
+        RowRec::from_words(&words)
+    }
+
+    fn exit(&self, pid: u32) -> Option<ExitRec> {
+        let mut words = [0; 4];
+        self.read(RecordId::Exit(pid), &mut words);
+        ExitRec::from_words(&words)
+    }
+
+    fn owner(&self, frame: u32) -> u32 {
+        if frame < self.map.user_frames {
+            self.area().overlaid(OWNERS + frame)
+        } else {
+            0
+        }
+    }
+
+    fn cache_owner(&self, i: u32) -> u32 {
+        self.area().overlaid(CACHE_OWNERS + i)
+    }
+
+    fn table_word(&self, slot: u32, table: u32, word: u32) -> u32 {
+        self.area()
+            .overlaid(TABLES + FRAME * (TABLES_OF_SLOT * slot + table) + word)
+    }
+
+    fn area_base(&self) -> u32 {
+        self.map.area_base
+    }
+
+    fn cache_base(&self) -> u32 {
+        self.map.cache_base
+    }
+
+    fn pool_base(&self) -> u32 {
+        self.map.pool_base
+    }
+}

@@ -7,7 +7,7 @@ use Rattle.std.specs.Bool.{Decides}
 use Rattle.std.specs.List.{list_all}
 use Rattle.ow_base.specs.World.{IsName}
 use Rattle.ow_base.specs.declared.machine.Bank.{Bank}
-use Rattle.record_layouts.proofs.Tests.{decides_below, decides_between, decides_status, decides_zero}
+use Rattle.record_layouts.specs.Tests.{decides_below, decides_between, decides_status, decides_zero}
 use Rattle.record_layouts.specs.Spelling.{AreZero, are_below, lies_between}
 use Rattle.record_layouts.specs.declared.head.HeadRec.{HeadRec}
 use Rattle.record_layouts.specs.Head.{FitsHead, fits_head}
