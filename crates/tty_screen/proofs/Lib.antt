@@ -1,0 +1,4 @@
+-- Lemmas on screens, on the ring of a terminal's rows, and on what the records show after a byte.
+pub mod Screens
+pub mod RowRing
+pub mod Showing

@@ -1,0 +1,1 @@
+//! Laws on screens and the records that show them.

@@ -1,0 +1,13 @@
+//! The screens of terminals, in the records of a kernel. The 24 row records of a terminal are a ring, of which its own
+//! record names the place of the top row: so a display scrolls by one new top row and one row that is blanked.
+#![tactic(auto)]
+
+mod drawing;
+mod laws;
+mod reading;
+mod ring;
+#[cfg(test)]
+mod tests;
+
+pub use drawing::byte_patch;
+pub use reading::screen_row;
