@@ -6,7 +6,8 @@ use Rattle.std.proofs.lemmas.List.Elements.{All-set, All-drop, All-push}
 use Rattle.std.proofs.lemmas.List.{length-set}
 use Rattle.ow_base.specs.Screen.{Screen, blank_row, drawn, printed, on_next_line}
 use Rattle.tty_screen.specs.Shown.{IsScreen}
-use Rattle.tty_screen.specs.Strokes.{is_seen, scrolls, cursor_after}
+use Rattle.tty_screen.specs.Drawing.{is_seen}
+use Rattle.tty_screen.specs.Strokes.{scrolls, cursor_after}
 
 -- the rows with a byte in the cursor's place, where it is seen
 abbrev pub stroke : (rows : List (List ℕ)) → (row col byte : ℕ) → (seen : Bool) → List (List ℕ)

@@ -10,7 +10,8 @@ use Rattle.record_layouts.specs.declared.patch.AnyRec.TheVariants as any
 use Rattle.record_layouts.specs.declared.patch.PatchItem.{PatchItem}
 use Rattle.record_layouts.specs.Held.{Records, with_items}
 use Rattle.tty_screen.specs.Shown.{IsScreen, ShowsScreen, row_number, text_of, display_row}
-use Rattle.tty_screen.specs.Strokes.{is_seen, scrolls, top_after, cursor_after, with_byte, blank_record, row_items}
+use Rattle.tty_screen.specs.Drawing.{is_seen}
+use Rattle.tty_screen.specs.Strokes.{scrolls, top_after, cursor_after, with_byte, blank_record, row_items}
 use Rattle.tty_screen.proofs.RowRing.{AreShown, with_row, stroked, scrolled}
 use Rattle.tty_screen.proofs.Screens.{stroke, moved_up, rows_drawn, row_drawn, col_drawn, still_screen}
 

@@ -1,7 +1,7 @@
 -- The screen that the records of a terminal show. Its 24 row records are a ring, and its own record has the place in
 -- the ring of the top row of its display.
 use Rattle.std.specs.Prelude.{◌≡◌, ℕ, ◌+◌, ◌*◌, ◌%◌, ◌<◌, true, List, [], length, slice_index_or, All, Option, Some, None, is_some}
-use Rattle.ow_base.specs.Screen.{Screen}
+use Rattle.ow_base.specs.Screen.{Screen, blank_row}
 use Rattle.record_layouts.specs.declared.term.TermRec.{TermRec}
 use Rattle.record_layouts.specs.declared.row.RowRec.{RowRec}
 use Rattle.record_layouts.specs.Held.{Records}
@@ -46,6 +46,12 @@ pub record ShowsScreen (records : Records) (tty : ℕ) (screen : Screen) : Type 
   pub row : cursor_row (records.terms tty) ≡ Some screen.row
   pub col : cursor_col (records.terms tty) ≡ Some screen.col
   pub rows : (r : ℕ) → r < 24 → display_row records tty r ≡ Some (slice_index_or screen.rows r [])
+
+-- a terminal as it begins: the cursor is in row 0 and column 0, and all its rows are blank
+pub record IsBlank (records : Records) (tty : ℕ) : Type 0 where
+  pub row : cursor_row (records.terms tty) ≡ Some 0
+  pub col : cursor_col (records.terms tty) ≡ Some 0
+  pub rows : (place : ℕ) → place < 24 → text_of (records.rows (24 * tty + place)) ≡ Some blank_row
 
 -- the terminal's record and its 24 rows decode
 pub record TerminalDecodes (records : Records) (tty : ℕ) : Type 0 where

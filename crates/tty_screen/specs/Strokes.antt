@@ -1,16 +1,13 @@
 -- The parts of a patch that draws a byte: the terminal's record, the row in which the byte is seen, and the row that
 -- is blanked.
-use Rattle.std.specs.Prelude.{ℕ, ◌+◌, ◌%◌, nat_le, Bool, ◌&&◌, ◌||◌, ◌==◌, if◌then◌else◌, List, [], ◌∷◌, slice_set, Option, Some, None}
+use Rattle.std.specs.Prelude.{ℕ, ◌+◌, ◌%◌, Bool, ◌&&◌, ◌||◌, ◌==◌, if◌then◌else◌, List, [], ◌∷◌, slice_set, Option, Some, None}
 use Rattle.ow_base.specs.Screen.{Screen, blank_row, drawn}
 use Rattle.record_layouts.specs.declared.term.TermRec.{TermRec}
 use Rattle.record_layouts.specs.declared.row.RowRec.{RowRec}
 use Rattle.record_layouts.specs.declared.places.RecordId.TheVariants as id
 use Rattle.record_layouts.specs.declared.patch.AnyRec.TheVariants as any
 use Rattle.record_layouts.specs.declared.patch.PatchItem.{PatchItem}
-
--- the byte is seen on the display
-abbrev pub is_seen : (byte : ℕ) → Bool
-is_seen byte = nat_le 32 byte && nat_le byte 126
+use Rattle.tty_screen.specs.Drawing.{is_seen}
 
 -- the byte moves all rows up: it ends the line of a cursor that is in row 23
 abbrev pub scrolls : (row col byte : ℕ) → Bool

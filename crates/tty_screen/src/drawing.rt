@@ -1,14 +1,14 @@
 //! The patch that draws a byte.
-ghost use Rattle.std.specs.Prelude.{◌≡◌, ◌≢◌, ◌+◌, ◌%◌, ◌<◌, ◌≤◌, ◌↔◌, ◌++◌, if◌then◌else◌, length, All, IsTrue, IfSome, Option, is_some, true};
+ghost use Rattle.std.specs.Prelude.{◌≡◌, ◌≢◌, ◌+◌, ◌%◌, ◌<◌, ◌≤◌, ◌++◌, if◌then◌else◌, length, All, IfSome, IsFalse, Option};
 ghost use Rattle.arrayvec.specs.ArrayVec.{array_vec_len};
 ghost use Rattle.record_layouts.specs.Held.{SectorsAre, with_items};
 ghost use Rattle.record_layouts.specs.Patch.{IsPatch};
 ghost use Rattle.record_layouts.specs.Row.{FitsRow};
 ghost use Rattle.record_layouts.specs.Term.{FitsTerm};
 ghost use Rattle.record_layouts.specs.declared.places.RecordId.{RecordId};
-ghost use Rattle.tty_screen.specs.Drawing.{CountsByte, DrawsByte, IsCounted, IsOfTerminal, StaysBeside};
+ghost use Rattle.tty_screen.specs.Drawing.{CountsByte, DrawsByte, HasItsPlace, IsCounted, IsOfTerminal, StaysBeside, is_seen};
 ghost use Rattle.tty_screen.specs.Shown.{TerminalDecodes, row_number};
-ghost use Rattle.tty_screen.specs.Strokes.{blank_record, cursor_after, is_seen, row_items, scrolls, top_after, with_byte};
+ghost use Rattle.tty_screen.specs.Strokes.{blank_record, cursor_after, row_items, scrolls, top_after, with_byte};
 
 use crate::ring::{ROWS, record_of_row};
 use record_layouts::{AnyRec, Patch, RecordId, RecordView, RowRec, TermRec};
@@ -31,6 +31,8 @@ pub fn byte_patch<V: RecordView>(view: &V, tty: u32, byte: u8) -> Patch
     ensures counts { IsCounted ((V.records view.now).terms tty) ((with_items (V.records view.now) result.items.items).terms tty) byte }
     ensures only { All (λ item. IsOfTerminal tty item.id) result.items.items }
     ensures small { length result.items.items ≤ 3 }
+    ensures quiet { IsFalse (is_seen byte) → byte ≢ 10 → length result.items.items ≡ 1 }
+    ensures places { All (λ item. HasItsPlace item.id item.rec) result.items.items }
     ensures beside { StaysBeside tty (V.records view.now) (with_items (V.records view.now) result.items.items) }
     ensures still_decodes { TerminalDecodes (with_items (V.records view.now) result.items.items) tty }
 {

@@ -10,4 +10,8 @@ mod ring;
 mod tests;
 
 pub use drawing::byte_patch;
+pub use laws::{
+    blank_terminals_show_blank_screens, bytes_are_drawn_in_turn, one_screen_is_shown,
+    other_screens_stay, shown_terminals_decode,
+};
 pub use reading::screen_row;
