@@ -67,12 +67,12 @@ byte_in {rows} {tty} {top} {texts} shown row small col byte (Some old) text =
 
 pub stroked : {rows : ℕ → Option RowRec} {tty top : ℕ} {texts : List (List ℕ)} → AreShown rows tty top texts → (row : ℕ) → row < 24 → (col byte : ℕ) → (seen : Bool)
     → AreShown (with_row rows (if seen then with_byte (rows (row_number tty top row)) (row_number tty top row) col byte else None)) tty top
-        (if seen then slice_set texts row (slice_set (slice_index_or texts row []) col byte) else texts)
+    (if seen then slice_set texts row (slice_set (slice_index_or texts row []) col byte) else texts)
 stroked shown row small col byte false = shown
 stroked {rows} {tty} {top} shown row small col byte true = byte_in shown row small col byte (rows (row_number tty top row)) (shown.each row small)
 
 pub scrolled : {rows : ℕ → Option RowRec} {tty top : ℕ} {texts : List (List ℕ)} → AreShown rows tty top texts → (moves : Bool)
     → AreShown (with_row rows (if moves then Some (blank_record (row_number tty top 0)) else None)) tty (if moves then (top + 1) % 24 else top)
-        (if moves then drop 1 texts ++ blank_row ∷ [] else texts)
+    (if moves then drop 1 texts ++ blank_row ∷ [] else texts)
 scrolled shown false = shown
 scrolled {rows} {tty} {top} shown true = turned shown (blank_record (row_number tty top 0))

@@ -30,10 +30,10 @@ one_screen {records} {tty} {a} {b} shows shows_too =
     let row : a.row ≡ b.row = same_row refl shows.row shows_too.row in
     let col : a.col ≡ b.col = same_row refl shows.col shows_too.col in
     let at : (r : ℕ) (d : List ℕ) → r < length a.rows → get_or a.rows r d ≡ get_or b.rows r d = λ r d within.
-      let low : r < 24 = omega (arith, shows.valid.long) in
-      let within_too : r < length b.rows = omega (arith, shows_too.valid.long) in
-      let text : get_or a.rows r [] ≡ get_or b.rows r [] = same_text (shows.rows r low) (shows_too.rows r low) in
-      get_or_default a.rows r d [] within ∙ (text ∙ get_or_default b.rows r [] d within_too) in
+    let low : r < 24 = omega (arith, shows.valid.long) in
+    let within_too : r < length b.rows = omega (arith, shows_too.valid.long) in
+    let text : get_or a.rows r [] ≡ get_or b.rows r [] = same_text (shows.rows r low) (shows_too.rows r low) in
+    get_or_default a.rows r d [] within ∙ (text ∙ get_or_default b.rows r [] d within_too) in
     same_screen (same_lists a.rows b.rows (shows.valid.long ∙ sym shows_too.valid.long) at) row col
 
 -- a record of the ring is that of some display row
@@ -147,4 +147,4 @@ shows_outside records tty screen [] outside shows = shows
 shows_outside records tty screen (item ∷ items) outside shows =
     let here : (IsOfTerminal tty item.id → ⊥) = outside 0 item (omega arith) in
     shows_outside (with_record records item.id item.rec) tty screen items (λ k d small. outside (suc k) d (omega arith))
-      (shows_same (term_outside records tty item.id item.rec here) (row_outside records tty item.id item.rec here) shows)
+    (shows_same (term_outside records tty item.id item.rec here) (row_outside records tty item.id item.rec here) shows)

@@ -16,6 +16,7 @@ use record_layouts::{AnyRec, Patch, RecordId, RecordView, RowRec, TermRec};
 const BLANK_ROW: [u8; 80] = [b' '; 80];
 
 const LAST_ROW: u32 = 23;
+
 const LAST_COL: u32 = 79;
 
 /// The patch that draws a byte on a terminal, 0 or 1, whose record and rows decode.

@@ -17,6 +17,6 @@ returns-clause-shows g c screen shows =
     let blanked = c.blanked_row-blanked.result in
     let there : records.terms tty ≡ Some before = cc in
     let items : c.put_row-2.new.patch.items.items ≡ byte_items tty after seen blanked =
-        put_together _ _ _ c.new-patch.ensures.none c.put.ensures.items c.put_row.ensures.items c.put_row-2.ensures.items in
+    put_together _ _ _ c.new-patch.ensures.none c.put.ensures.items c.put_row.ensures.items c.put_row-2.ensures.items in
     rw items (draws shows before after c.args.byte there c.after_byte-after.ensures.top c.after_byte-after.ensures.row c.after_byte-after.ensures.col
-      seen blanked c.seen_row-seen.ensures.row c.blanked_row-blanked.ensures.row)
+    seen blanked c.seen_row-seen.ensures.row c.blanked_row-blanked.ensures.row)
