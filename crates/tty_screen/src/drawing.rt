@@ -1,0 +1,160 @@
+//! The patch that draws a byte.
+ghost use Rattle.std.specs.Prelude.{◌≡◌, ◌≢◌, ◌+◌, ◌%◌, ◌<◌, ◌≤◌, ◌++◌, if◌then◌else◌, length, All, IfSome, IsFalse, Option};
+ghost use Rattle.arrayvec.specs.ArrayVec.{array_vec_len};
+ghost use Rattle.record_layouts.specs.Held.{SectorsAre, with_items};
+ghost use Rattle.record_layouts.specs.Patch.{IsPatch};
+ghost use Rattle.record_layouts.specs.Row.{FitsRow};
+ghost use Rattle.record_layouts.specs.Term.{FitsTerm};
+ghost use Rattle.record_layouts.specs.declared.places.RecordId.{RecordId};
+ghost use Rattle.tty_screen.specs.Drawing.{CountsByte, DrawsByte, HasItsPlace, IsCounted, IsOfTerminal, StaysBeside, is_seen};
+ghost use Rattle.tty_screen.specs.Shown.{TerminalDecodes, row_number};
+ghost use Rattle.tty_screen.specs.Strokes.{blank_record, cursor_after, row_items, scrolls, top_after, with_byte};
+
+use crate::ring::{ROWS, record_of_row};
+use record_layouts::{AnyRec, Patch, RecordId, RecordView, RowRec, TermRec};
+
+const BLANK_ROW: [u8; 80] = [b' '; 80];
+
+const LAST_ROW: u32 = 23;
+
+const LAST_COL: u32 = 79;
+
+/// The patch that draws a byte on a terminal, 0 or 1, whose record and rows decode.
+///
+/// It sets the terminal's record, in which the byte is counted, and at most two rows: that in which the byte is seen,
+/// and where the display scrolls the one that is blanked.
+pub fn byte_patch<V: RecordView>(view: &V, tty: u32, byte: u8) -> Patch
+    requires tty { tty < 2 }
+    requires decodes { TerminalDecodes (V.records view.now) tty }
+    ensures patch { IsPatch result.items.items }
+    ensures sectors { All (λ item. SectorsAre (V.records view.now).map.sectors item.rec) result.items.items }
+    ensures shows { DrawsByte (V.records view.now) tty byte result.items.items }
+    ensures counts { IsCounted ((V.records view.now).terms tty) ((with_items (V.records view.now) result.items.items).terms tty) byte }
+    ensures only { All (λ item. IsOfTerminal tty item.id) result.items.items }
+    ensures small { length result.items.items ≤ 3 }
+    ensures quiet { IsFalse (is_seen byte) → byte ≢ 10 → length result.items.items ≡ 1 }
+    ensures places { All (λ item. HasItsPlace item.id item.rec) result.items.items }
+    ensures beside { StaysBeside tty (V.records view.now) (with_items (V.records view.now) result.items.items) }
+    ensures still_decodes { TerminalDecodes (with_items (V.records view.now) result.items.items) tty }
+{
+    let terminal = view.term(tty).unwrap();
+    let after = after_byte(&terminal, byte);
+    let seen = seen_row(view, tty, &terminal, byte);
+    let blanked = blanked_row(tty, &terminal, byte);
+    let mut patch = Patch::new();
+    patch.put(RecordId::Term(tty), AnyRec::Term(after));
+    put_row(&mut patch, seen);
+    put_row(&mut patch, blanked);
+    patch
+}
+
+// The display moves up by one row.
+fn does_scroll(terminal: &TermRec, byte: u8) -> bool
+    ensures { result ≡ scrolls terminal.now.row terminal.now.col byte }
+{
+    let ends_line = match byte {
+        b'\n' => true,
+        b' '..=b'~' => terminal.col == LAST_COL,
+        _ => false,
+    };
+    terminal.row == LAST_ROW && ends_line
+}
+
+// The terminal's record after the byte.
+#[tactic(auto, unfolding(ow_base::specs::Screen::drawn, ow_base::specs::Screen::printed, ow_base::specs::Screen::on_next_line))]
+fn after_byte(terminal: &TermRec, byte: u8) -> TermRec
+    requires { FitsTerm terminal.now }
+    ensures counts { CountsByte terminal.now result byte }
+    ensures top { result.top ≡ top_after terminal.now byte }
+    ensures row { result.row ≡ (cursor_after terminal.now.row terminal.now.col byte).row }
+    ensures col { result.col ≡ (cursor_after terminal.now.row terminal.now.col byte).col }
+    ensures fits { FitsTerm result }
+{
+    let counted = TermRec {
+        written: terminal.written.saturating_add(1),
+        last: u32::from(byte),
+        ..*terminal
+    };
+    match byte {
+        b'\n' => on_next_line(&counted),
+        b' '..=b'~' if counted.col == LAST_COL => on_next_line(&counted),
+        b' '..=b'~' => TermRec {
+            col: counted.col + 1,
+            ..counted
+        },
+        b'\r' => TermRec { col: 0, ..counted },
+        8 => TermRec {
+            col: counted.col.saturating_sub(1),
+            ..counted
+        },
+        _ => counted,
+    }
+}
+
+// The terminal's record with the cursor in column 0 of the next line. Behind the last row the ring turns by one place.
+fn on_next_line(terminal: &TermRec) -> TermRec
+    requires { FitsTerm terminal.now }
+    ensures last { terminal.now.row ≡ 23 → result ≡ record terminal.now { top = (terminal.now.top + 1) % 24; col = 0 } }
+    ensures other { terminal.now.row ≢ 23 → result ≡ record terminal.now { row = terminal.now.row + 1; col = 0 } }
+{
+    if terminal.row == LAST_ROW {
+        TermRec {
+            top: (terminal.top + 1) % ROWS,
+            col: 0,
+            ..*terminal
+        }
+    } else {
+        TermRec {
+            row: terminal.row + 1,
+            col: 0,
+            ..*terminal
+        }
+    }
+}
+
+// The row of the cursor with the byte in it, where the byte is seen.
+fn seen_row<V: RecordView>(view: &V, tty: u32, terminal: &TermRec, byte: u8) -> Option<RowRec>
+    requires tty { tty < 2 }
+    requires fits { FitsTerm terminal.now }
+    requires decodes { TerminalDecodes (V.records view.now) tty }
+    ensures row { let number = row_number tty terminal.now.top terminal.now.row in
+        result ≡ (if is_seen byte then with_byte ((V.records view.now).rows number) number terminal.now.col byte else Option.None) }
+    ensures fits { IfSome result FitsRow }
+{
+    if !matches!(byte, b' '..=b'~') {
+        return None;
+    }
+    let place = record_of_row(tty, terminal.top, terminal.row);
+    let mut text = view.row(place).unwrap().text;
+    text[terminal.col as usize] = byte;
+    Some(RowRec { place, text })
+}
+
+// The row that is blank after the byte, where the display scrolls: the one that was on top is then the last.
+fn blanked_row(tty: u32, terminal: &TermRec, byte: u8) -> Option<RowRec>
+    requires tty { tty < 2 }
+    requires fits { FitsTerm terminal.now }
+    ensures row { result ≡ (if scrolls terminal.now.row terminal.now.col byte then Option.Some (blank_record (row_number tty terminal.now.top 0)) else Option.None) }
+    ensures fits { IfSome result FitsRow }
+{
+    if !does_scroll(terminal, byte) {
+        return None;
+    }
+    Some(RowRec {
+        place: record_of_row(tty, terminal.top, 0),
+        text: BLANK_ROW,
+    })
+}
+
+// Adds a row to the patch, where there is one.
+fn put_row(patch: &mut Patch, row: Option<RowRec>)
+    requires room { array_vec_len patch.old.items < 6 }
+    requires fits { IfSome row FitsRow }
+    requires other { IfSome row (λ one. All (λ item. item.id ≢ RecordId.Row one.place) patch.old.items.items) }
+    ensures items { patch.new.items.items ≡ patch.old.items.items ++ row_items row }
+    ensures valid { IsPatch patch.old.items.items → IsPatch patch.new.items.items }
+{
+    if let Some(row) = row {
+        patch.put(RecordId::Row(row.place), AnyRec::Row(row));
+    }
+}
