@@ -1,0 +1,1 @@
+-- The definitions that the laws cite: how many pages the regions hold, and the map of pages to frames.
