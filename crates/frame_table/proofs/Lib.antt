@@ -3,3 +3,4 @@
 pub mod Counting
 pub mod Found
 pub mod Tables
+pub mod Framed

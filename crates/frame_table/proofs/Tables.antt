@@ -72,7 +72,7 @@ mapping_none (Some frame) = refl
 mapping_none None = refl
 
 module _ (r : Records) (slot : ℕ) (process : ProcRec) where
-  map_found : (page frame : ℕ) (rights : Rights) → frame_of r slot process page ≡ Some frame → region_of process page ≡ Some rights
+  pub map_found : (page frame : ℕ) (rights : Rights) → frame_of r slot process page ≡ Some frame → region_of process page ≡ Some rights
       → map_of r slot process page ≡ Some (record { frame = frame; rights = rights })
   unfolding map_of
   map_found page frame rights found held = rw (found, held) refl
@@ -81,7 +81,7 @@ module _ (r : Records) (slot : ℕ) (process : ProcRec) where
   unfolding map_of
   map_unheld page none = rw none (mapping_none (frame_of r slot process page))
 
-  map_unfound : (page : ℕ) → frame_of r slot process page ≡ None → map_of r slot process page ≡ None
+  pub map_unfound : (page : ℕ) → frame_of r slot process page ≡ None → map_of r slot process page ≡ None
   unfolding map_of
   map_unfound page none = rw none refl
 
