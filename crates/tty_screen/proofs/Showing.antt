@@ -1,5 +1,5 @@
 -- What the records of a terminal show once the patch of a byte is laid over them.
-use Rattle.std.proofs.Common.{◌≡◌, ℕ, ◌<◌, Bool, true, false, if◌then◌else◌, List, [], ◌∷◌, ◌++◌, slice_index_or, Option, Some, None, refl, arith, sym, ◌∙◌, ap, subst}
+use Rattle.std.proofs.Common.{◌≡◌, ℕ, ◌<◌, if◌then◌else◌, List, [], ◌∷◌, ◌++◌, Option, Some, None, refl, arith, sym, ◌∙◌}
 use Rattle.std.proofs.lemmas.Bool.Decides.{nat_tests}
 use Rattle.ow_base.specs.Screen.{Screen, drawn}
 use Rattle.ow_base.specs.Words.{updated}
@@ -9,11 +9,11 @@ use Rattle.record_layouts.specs.declared.places.RecordId.TheVariants as id
 use Rattle.record_layouts.specs.declared.patch.AnyRec.TheVariants as any
 use Rattle.record_layouts.specs.declared.patch.PatchItem.{PatchItem}
 use Rattle.record_layouts.specs.Held.{Records, with_items}
-use Rattle.tty_screen.specs.Shown.{IsScreen, ShowsScreen, row_number, text_of, display_row}
+use Rattle.tty_screen.specs.Shown.{IsScreen, ShowsScreen, row_number}
 use Rattle.tty_screen.specs.Drawing.{is_seen}
 use Rattle.tty_screen.specs.Strokes.{scrolls, top_after, cursor_after, with_byte, blank_record, row_items}
 use Rattle.tty_screen.proofs.RowRing.{AreShown, with_row, stroked, scrolled}
-use Rattle.tty_screen.proofs.Screens.{stroke, moved_up, rows_drawn, row_drawn, col_drawn, still_screen}
+use Rattle.tty_screen.proofs.Screens.{rows_drawn, row_drawn, col_drawn, still_screen}
 
 -- what sets a terminal's record and up to two rows
 abbrev pub byte_items : (tty : ℕ) → TermRec → (seen blanked : Option RowRec) → List PatchItem

@@ -1,6 +1,5 @@
 -- Laws on the screens that records show.
-use Rattle.std.proofs.Common.{◌≡◌, ℕ, suc, ◌+◌, ◌-◌, ◌*◌, ◌%◌, ◌<◌, true, List, [], ◌∷◌, ◌++◌, length, slice_index_or, get_or, All, lit<, Option, Some, None, is_some, refl, arith, sym, ◌∙◌, ap, subst, replicate}
-use Rattle.std.proofs.lemmas.Grind.{common_steps}
+use Rattle.std.proofs.Common.{◌≡◌, ℕ, suc, ◌+◌, ◌-◌, ◌*◌, ◌%◌, ◌<◌, true, List, [], ◌∷◌, ◌++◌, length, slice_index_or, get_or, All, lit<, Option, Some, None, is_some, refl, arith, sym, ◌∙◌, ap, subst}
 use Rattle.std.proofs.lemmas.Bool.Decides.{nat_tests}
 use Rattle.std.proofs.lemmas.List.{same_lists, get_or_default, get_or-replicate}
 use Rattle.ow_base.specs.Screen.{Screen, blank_row, blank_screen, drawn, drawn_all, screen_of}
@@ -12,7 +11,7 @@ use Rattle.record_layouts.specs.declared.patch.AnyRec.{AnyRec}
 use Rattle.record_layouts.specs.declared.patch.AnyRec.TheVariants as any
 use Rattle.record_layouts.specs.declared.patch.PatchItem.{PatchItem}
 use Rattle.record_layouts.specs.Held.{Records, with_items, with_record}
-use Rattle.tty_screen.specs.Shown.{IsScreen, ShowsScreen, IsBlank, TerminalDecodes, row_number, text_of, text_under, cursor_row, cursor_col, display_row}
+use Rattle.tty_screen.specs.Shown.{ShowsScreen, IsBlank, TerminalDecodes, row_number, text_of, text_under, cursor_row}
 use Rattle.tty_screen.specs.Drawing.{DrawsAll, DrawsByte, with_patches, IsOfTerminal, IsRowOf}
 
 -- records show one screen at most

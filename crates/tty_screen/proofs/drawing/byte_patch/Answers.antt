@@ -1,8 +1,4 @@
-use Rattle.std.proofs.Common.{◌≡◌, List, Some, subst, sym, ◌∙◌}
-use Rattle.ow_base.specs.Screen.{drawn}
-use Rattle.record_layouts.specs.declared.patch.PatchItem.{PatchItem}
-use Rattle.record_layouts.specs.Held.{with_items}
-use Rattle.tty_screen.specs.Shown.{ShowsScreen}
+use Rattle.std.proofs.Common.{◌≡◌, Some}
 use Rattle.tty_screen.proofs.Showing.{draws, byte_items, put_together}
 use Rattle.tty_screen.proofs.drawing.byte_patch.Goals as goal
 
