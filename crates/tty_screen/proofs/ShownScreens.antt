@@ -12,7 +12,7 @@ use Rattle.record_layouts.specs.declared.patch.AnyRec.TheVariants as any
 use Rattle.record_layouts.specs.declared.patch.PatchItem.{PatchItem}
 use Rattle.record_layouts.specs.Held.{Records, with_items, with_record}
 use Rattle.tty_screen.specs.Shown.{ShowsScreen, IsBlank, TerminalDecodes, row_number, text_of, text_under, cursor_row}
-use Rattle.tty_screen.specs.Drawing.{DrawsAll, DrawsByte, with_patches, IsOfTerminal, IsRowOf}
+use Rattle.tty_screen.specs.Drawing.{DrawsAll, DrawsByte, with_patches, IsOfTerminal, IsRowOf, StaysBeside}
 
 -- records show one screen at most
 same_row : {a b : Option ℕ} {m n : ℕ} → a ≡ b → a ≡ Some m → b ≡ Some n → m ≡ n
@@ -147,3 +147,14 @@ shows_outside records tty screen (item ∷ items) outside shows =
     let here : (IsOfTerminal tty item.id → ⊥) = outside 0 item (omega arith) in
     shows_outside (with_record records item.id item.rec) tty screen items (λ k d small. outside (suc k) d (omega arith))
     (shows_same (term_outside records tty item.id item.rec here) (row_outside records tty item.id item.rec here) shows)
+
+-- changes of a terminal's records, one after the other
+pub beside_none : (tty : ℕ) (records : Records) → StaysBeside tty records records
+beside_none tty records = record { rest = refl; terms = λ other not. refl; rows = λ index not. refl }
+
+pub beside_more : {tty : ℕ} {old middle new : Records} → StaysBeside tty old middle → StaysBeside tty middle new → StaysBeside tty old new
+beside_more {tty} {old} {middle} {new} first second = record {
+  rest = second.rest ∙ ap (λ (r : Records). record r { terms = new.terms; rows = new.rows }) first.rest;
+  terms = λ other not. second.terms other not ∙ first.terms other not;
+  rows = λ index not. second.rows index not ∙ first.rows index not;
+}

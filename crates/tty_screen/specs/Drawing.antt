@@ -12,7 +12,8 @@ use Rattle.tty_screen.specs.Shown.{ShowsScreen}
 
 -- a byte more is drawn on whatever screen the records show
 abbrev pub DrawsByte : Records → (tty byte : ℕ) → List PatchItem → Type 0
-DrawsByte records tty byte items = (screen : Screen) → ShowsScreen records tty screen → ShowsScreen (with_items records items) tty (drawn screen byte)
+DrawsByte records tty byte items = (screen : Screen)
+    → ShowsScreen records tty screen → ShowsScreen (with_items records items) tty (drawn screen byte)
 
 -- patches that are set one after the other
 abbrev pub with_patches : Records → List (List PatchItem) → Records
@@ -22,7 +23,8 @@ with_patches records (items ∷ patches) = with_patches (with_items records item
 -- each patch draws its byte, on the records that those before it leave
 abbrev pub DrawsAll : Records → (tty : ℕ) → (bytes : List ℕ) → List (List PatchItem) → Type 0
 DrawsAll records tty [] [] = Unit {0}
-DrawsAll records tty (byte ∷ bytes) (items ∷ patches) = DrawsByte records tty byte items × DrawsAll (with_items records items) tty bytes patches
+DrawsAll records tty (byte ∷ bytes) (items ∷ patches) =
+    DrawsByte records tty byte items × DrawsAll (with_items records items) tty bytes patches
 DrawsAll records tty bytes patches = ⊥
 
 -- the byte is seen on the display

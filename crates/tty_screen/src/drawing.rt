@@ -29,7 +29,8 @@ pub fn byte_patch<V: RecordView>(view: &V, tty: u32, byte: u8) -> Patch
     ensures patch { IsPatch result.items.items }
     ensures sectors { All (λ item. SectorsAre (V.records view.now).map.sectors item.rec) result.items.items }
     ensures shows { DrawsByte (V.records view.now) tty byte result.items.items }
-    ensures counts { IsCounted ((V.records view.now).terms tty) ((with_items (V.records view.now) result.items.items).terms tty) byte }
+    ensures counts { let old = V.records view.now in
+        IsCounted (old.terms tty) ((with_items old result.items.items).terms tty) byte }
     ensures only { All (λ item. IsOfTerminal tty item.id) result.items.items }
     ensures small { length result.items.items ≤ 3 }
     ensures quiet { IsFalse (is_seen byte) → byte ≢ 10 → length result.items.items ≡ 1 }
@@ -118,7 +119,8 @@ fn seen_row<V: RecordView>(view: &V, tty: u32, terminal: &TermRec, byte: u8) -> 
     requires fits { FitsTerm terminal.now }
     requires decodes { TerminalDecodes (V.records view.now) tty }
     ensures row { let number = row_number tty terminal.now.top terminal.now.row in
-        result ≡ (if is_seen byte then with_byte ((V.records view.now).rows number) number terminal.now.col byte else Option.None) }
+        let found = (V.records view.now).rows number in
+        result ≡ (if is_seen byte then with_byte found number terminal.now.col byte else Option.None) }
     ensures fits { IfSome result FitsRow }
 {
     if !matches!(byte, b' '..=b'~') {
@@ -134,7 +136,8 @@ fn seen_row<V: RecordView>(view: &V, tty: u32, terminal: &TermRec, byte: u8) -> 
 fn blanked_row(tty: u32, terminal: &TermRec, byte: u8) -> Option<RowRec>
     requires tty { tty < 2 }
     requires fits { FitsTerm terminal.now }
-    ensures row { result ≡ (if scrolls terminal.now.row terminal.now.col byte then Option.Some (blank_record (row_number tty terminal.now.top 0)) else Option.None) }
+    ensures row { let blank = blank_record (row_number tty terminal.now.top 0) in
+        result ≡ (if scrolls terminal.now.row terminal.now.col byte then Option.Some blank else Option.None) }
     ensures fits { IfSome result FitsRow }
 {
     if !does_scroll(terminal, byte) {

@@ -14,7 +14,8 @@ pub fn screen_row<V: RecordView>(view: &V, tty: u32, r: u32) -> Option<[u8; 80]>
     requires tty { tty < 2 }
     requires row { r < 24 }
     ensures exact { result ≡ display_row (V.records view.now) tty r }
-    ensures shown { (screen : Screen) → ShowsScreen (V.records view.now) tty screen → result ≡ Some (slice_index_or screen.rows r []) }
+    ensures shown { (screen : Screen)
+        → ShowsScreen (V.records view.now) tty screen → result ≡ Some (slice_index_or screen.rows r []) }
 {
     let terminal = view.term(tty)?;
     let row = view.row(record_of_row(tty, terminal.top, r))?;

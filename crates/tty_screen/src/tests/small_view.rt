@@ -97,7 +97,8 @@ impl Screens {
 
 // The fields are in their ranges.
 fn fits(term: &TermRec) -> bool
-    ensures { let t = term.now in result ≡ (nat_lt t.tty 2 && nat_lt t.last 256 && nat_lt t.top 24 && nat_lt t.row 24 && nat_lt t.col 80) }
+    ensures { let t = term.now in
+        result ≡ (nat_lt t.tty 2 && nat_lt t.last 256 && nat_lt t.top 24 && nat_lt t.row 24 && nat_lt t.col 80) }
 {
     term.tty < 2 && term.last < 256 && term.top < 24 && term.row < 24 && term.col < 80
 }
