@@ -4,3 +4,4 @@ pub mod Holding
 pub mod Pending
 pub mod Working
 pub mod Ended
+pub mod Small

@@ -4,3 +4,4 @@ pub mod Least
 pub mod Slots
 pub mod Choosing
 pub mod Patches
+pub mod Small
