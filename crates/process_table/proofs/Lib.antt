@@ -4,4 +4,3 @@ pub mod Holding
 pub mod Pending
 pub mod Working
 pub mod Ended
-pub mod Small

@@ -5,3 +5,4 @@ pub mod Slots
 pub mod Choosing
 pub mod Patches
 pub mod Small
+pub mod SmallValues

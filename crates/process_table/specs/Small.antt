@@ -3,7 +3,7 @@ use Rattle.std.specs.Prelude.{ℕ, Bool, ◌+◌, ◌*◌, ◌%◌, ◌^◌, nat
 use Rattle.record_layouts.specs.declared.proc.ProcRec.{ProcRec}
 use Rattle.record_layouts.specs.declared.sig.SigRec.{SigRec}
 use Rattle.record_layouts.specs.Held.{Records}
-use Rattle.process_table.specs.Patches.{blank_bank, ended_process}
+use Rattle.process_table.specs.Patches.{blank_bank}
 
 -- pids 1 to 16, in another order than the slots; all others are children of pid 1
 abbrev pub pid_in : (shift slot : ℕ) → ℕ
@@ -19,10 +19,11 @@ live_process state call pid = record {
   handler_save = blank_bank; crash_save = blank_bank;
 }
 
-abbrev pub free_process : ProcRec
-free_process = record {
-  state = 0; pid = 0; parent = 0; call = 0; done = 0; code_pages = 0; data_pages = 0; brk = 0;
-  procedure = 0; mask = 0; flags = 0; status = 0; descs = replicate 8 0; regs = replicate 31 0; pc = 0;
+-- nothing but these: a free slot, or a process that has ended
+abbrev pub over_process : (state pid parent status : ℕ) → ProcRec
+over_process state pid parent status = record {
+  state = state; pid = pid; parent = parent; call = 0; done = 0; code_pages = 0; data_pages = 0; brk = 0;
+  procedure = 0; mask = 0; flags = 0; status = status; descs = replicate 8 0; regs = replicate 31 0; pc = 0;
   handler_save = blank_bank; crash_save = blank_bank;
 }
 
@@ -30,10 +31,10 @@ free_process = record {
 -- and another number one in a wait
 abbrev pub process_by : (kind pid : ℕ) → ProcRec
 process_by kind pid =
-    if kind == 0 then free_process else
+    if kind == 0 then over_process 0 0 0 0 else
     if kind == 1 then live_process 1 0 pid else
     if kind == 2 then live_process 2 2 pid else
-    if kind == 3 then ended_process (live_process 1 0 pid) 7 else
+    if kind == 3 then over_process 3 pid (parent_of pid) 7 else
     if kind == 5 then live_process 2 3 pid else live_process 2 10 pid
 
 -- a number above 5 is also half the word of pending signals

@@ -1,9 +1,14 @@
 //! What is chosen and what is set, on a small view.
 mod small_view;
 
+ghost use Rattle.std.specs.Prelude.{◌≡◌, ◌<◌, true, IsTrue};
+ghost use Rattle.process_table.specs.Slots.{is_live_one};
+
 use crate::{Bank, Choice, Now, Patch, choose, end_process, free_slot, next_pid, save_bank, take_signal};
+use crate::signals::signal_of;
+use crate::slots::is_live;
 use ow_base::Regs;
-use record_layouts::AnyRec;
+use record_layouts::{AnyRec, RecordView};
 use small_view::{CONSUMED, ENDED, FREE, OUT, READS, Small, WAITS, WRITES};
 
 // No typed byte has arrived, and one is to come.
@@ -36,7 +41,9 @@ fn view_of(front: &[u32], last: u32, shift: u32) -> Small {
 }
 
 // The slot of a pid, as the view numbers them: 13 times 5 is one more than 4 times 16.
-fn slot_of(pid: u32, shift: u32) -> u32 {
+fn slot_of(pid: u32, shift: u32) -> u32
+    ensures { result < 16 }
+{
     (pid % 16 + 31 - shift % 16) * 13 % 16
 }
 
@@ -135,49 +142,85 @@ fn takes_slots_and_pids(rt: HostRuntime) {
     }
 }
 
-// The records of a patch, in their order: the head's trap and pid, and then a word of each.
-fn told(patch: &Patch) -> [u32; 4] {
-    let mut words = [0; 4];
+// What a patch sets: trap and pid of the head, state, status and pc of the process, and how it ended or which signals
+// are pending.
+fn told(patch: &Patch) -> [u32; 6] {
+    let mut words = [0; 6];
     for item in patch.items.as_slice() {
         match item.rec {
             AnyRec::Head(head) => {
                 words[0] = head.served;
                 words[1] = head.last;
             }
-            AnyRec::Proc(process) => words[2] = process.state * 0x1000 + process.status + process.pc % 0x1000,
-            AnyRec::Exit(exit) => words[3] = exit.state * 0x1000 + exit.value,
-            AnyRec::Sig(signals) => words[3] = signals.pending,
+            AnyRec::Proc(process) => {
+                words[2] = process.state;
+                words[3] = process.status;
+                words[4] = process.pc;
+            }
+            AnyRec::Exit(exit) => words[5] = exit.value,
+            AnyRec::Sig(signals) => words[5] = signals.pending,
             _ => {}
         }
     }
     words
 }
 
+// The slot holds a live process.
+fn holds_live(view: &Small, slot: u32) -> bool
+    requires { slot < 16 }
+    ensures { IsTrue result → is_live_one ((⟦<Small as RecordView>⟧.records view.now).procs slot) ≡ true }
+{
+    view.proc(slot).is_some_and(|process| is_live(&process))
+}
+
 #[test]
 fn patches_tell_what_ends(rt: HostRuntime) {
-    let view = view_of(&[OUT, WRITES, WAITS], 0, 0);
-    assert!(rt; told(&end_process(&view, 1, 0x20d, 9)) == [9, 6, 0x320d, 0x220d]);
     let bank = Bank {
         pc: 0x1_0404,
         regs: Regs::new(),
     };
-    assert!(rt; told(&save_bank(&view, 0, &bank, 9)) == [9, 1, 0x1404, 0]);
+    // By slot: how the process ends, and how it is saved. Slots 2 and 3 hold no live process.
+    for (slot, ended, saved) in [
+        (0, [9, 1, 3, 0x20d, 0, 0x20d], [9, 1, 1, 0, 0x1_0404, 0]),
+        (1, [9, 6, 3, 0x20d, 0, 0x20d], [9, 6, 2, 0, 0x1_0404, 0]),
+        (2, [0; 6], [0; 6]),
+        (3, [0; 6], [0; 6]),
+    ] {
+        let view = view_of(&[OUT, WRITES, ENDED, FREE], 0, 0);
+        let mut found = [[0; 6]; 2];
+        if holds_live(&view, slot) {
+            found = [
+                told(&end_process(&view, slot, 0x20d, 9)),
+                told(&save_bank(&view, slot, &bank, 9)),
+            ];
+        }
+        assert!(rt; found == [ended, saved]);
+    }
+}
+
+// What the signal of the process in slot 0 does, if one goes to it.
+fn signalled(view: &Small) -> [u32; 6] {
+    match view.proc(0) {
+        Some(process) if is_live(&process) && signal_of(view, 0, &process).is_some() => told(&take_signal(view, 0, 9)),
+        _ => [0; 6],
+    }
 }
 
 #[test]
 fn signals_go_by_their_handlers(rt: HostRuntime) {
-    // Signals 9 and 4, and signals 4 and 3, in a wait.
+    // Signals 9 and 4, signals 4 and 3, and none, in a wait.
     for (half, handler, want) in [
-        (0x108, 0, [9, 1, 0x3109, 0x2109]),
-        (0x108, 1, [9, 1, 0x2000, 0x10]),
-        (0x108, 0x808, [9, 1, 0x1808, 0x10]),
-        (0xc, 0, [9, 1, 0x3103, 0x2103]),
-        (0xc, 1, [9, 1, 0x2000, 0x10]),
+        (0x108, 0, [9, 1, 3, 0x109, 0, 0x109]),
+        (0x108, 1, [9, 1, 2, 0, 0x1_0000, 0x10]),
+        (0x108, 0x808, [9, 1, 1, 0, 0x808, 0x10]),
+        (0xc, 0, [9, 1, 3, 0x103, 0, 0x103]),
+        (0xc, 1, [9, 1, 2, 0, 0x1_0000, 0x10]),
+        (WAITS, 0, [0; 6]),
     ] {
         let view = Small {
             handler,
             ..view_of(&[half], 0, 0)
         };
-        assert!(rt; told(&take_signal(&view, 0, 9)) == want);
+        assert!(rt; signalled(&view) == want);
     }
 }

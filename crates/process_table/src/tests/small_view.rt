@@ -1,7 +1,7 @@
 //! A view of a kernel with sixteen slots, each told by one number.
 ghost use Rattle.std.specs.Prelude.{◌≡◌, ◌<◌, ◌≤◌, ◌⊎◌};
 ghost use Rattle.process_table.specs.Patches.{blank_bank};
-ghost use Rattle.process_table.specs.Small.{free_process, live_process, pending_by, pid_in, process_by, small_records};
+ghost use Rattle.process_table.specs.Small.{live_process, over_process, parent_of, pending_by, pid_in, process_by, small_records};
 
 use ow_base::{Bank, Regs};
 use record_layouts::{
@@ -48,13 +48,13 @@ fn blank_bank() -> Bank
     }
 }
 
-fn free_process() -> ProcRec
-    ensures { result ≡ free_process }
+fn over_process(state: u32, pid: u32, parent: u32, status: u32) -> ProcRec
+    ensures { result ≡ over_process state pid parent status }
 {
     ProcRec {
-        state: 0,
-        pid: 0,
-        parent: 0,
+        state,
+        pid,
+        parent,
         call: 0,
         done: 0,
         code_pages: 0,
@@ -63,7 +63,7 @@ fn free_process() -> ProcRec
         procedure: 0,
         mask: 0,
         flags: 0,
-        status: 0,
+        status,
         descs: [0; 8],
         regs: Regs::new(),
         pc: 0,
@@ -72,13 +72,19 @@ fn free_process() -> ProcRec
     }
 }
 
+fn parent_of(pid: u32) -> u32
+    ensures { result ≡ parent_of pid }
+{
+    if pid == 1 { 0 } else { 1 }
+}
+
 fn live_process(state: u32, call: u32, pid: u32) -> ProcRec
     ensures { result ≡ live_process state call pid }
 {
     ProcRec {
         state,
         pid,
-        parent: if pid == 1 { 0 } else { 1 },
+        parent: parent_of(pid),
         call,
         done: 0,
         code_pages: 1,
@@ -101,16 +107,10 @@ fn process_of(kind: u32, pid: u32) -> ProcRec
     ensures { result ≡ process_by kind pid }
 {
     match kind {
-        FREE => free_process(),
+        FREE => over_process(0, 0, 0, 0),
         OUT => live_process(1, 0, pid),
         WRITES => live_process(2, 2, pid),
-        ENDED => ProcRec {
-            state: 3,
-            pid,
-            parent: if pid == 1 { 0 } else { 1 },
-            status: 7,
-            ..free_process()
-        },
+        ENDED => over_process(3, pid, parent_of(pid), 7),
         READS => live_process(2, 3, pid),
         _ => live_process(2, 10, pid),
     }
@@ -137,7 +137,7 @@ impl RecordView for Small {
     ghost use Rattle.std.specs.Prelude.{Some, None};
     ghost use Rattle.std.proofs.Common.{arith, inl, inr};
     ghost use Rattle.std.proofs.lemmas.Grind.{common_steps};
-    ghost use Rattle.process_table.proofs.Small.{small_values};
+    ghost use Rattle.process_table.specs.SmallValues.{small_values};
 
     ghost records = { λ s. small_records s.last s.shift s.handler s.is_full s.parent_lives s.kinds };
 

@@ -5,12 +5,11 @@ use Rattle.std.proofs.lemmas.List.{get_or-replicate}
 use Rattle.std.proofs.lemmas.Grind.{common_steps}
 use Rattle.record_layouts.specs.declared.proc.ProcRec.{ProcRec}
 use Rattle.record_layouts.specs.Held.{Records, AreValues}
-use Rattle.record_layouts.specs.Proc.{FitsProc, FitsLive, FitsFree, IsOver}
+use Rattle.record_layouts.specs.Proc.{FitsProc, FitsLive, FitsFree, IsOver, IsBlankBank}
 use Rattle.record_layouts.specs.Exit.{FitsExit}
 use Rattle.record_layouts.specs.Spelling.{AreZero, IsStatus}
-use Rattle.process_table.specs.Patches.{ended_process}
-use Rattle.process_table.specs.Small.{pid_in, parent_of, free_process, live_process, process_by, small_records}
-use Rattle.process_table.proofs.Ended.{ended_fits, over}
+use Rattle.process_table.specs.Patches.{blank_bank}
+use Rattle.process_table.specs.Small.{pid_in, parent_of, over_process, live_process, process_by, small_records}
 
 parent_fits : (pid : ℕ) → parent_of pid ≤ 256
 parent_fits pid = elim (cases_Bool (pid == 1)) [ inl first ↦ rw first (omega arith) | inr other ↦ rw other (omega arith) ]
@@ -45,23 +44,39 @@ outside pid from to = record {
   ended = λ s. absurd (omega (arith, s));
 }
 
-blank_over : IsOver free_process
-blank_over = let zero = over free_process 0 in record {
+zeros : (count : ℕ) → AreZero (replicate count 0) 0 count
+zeros count k from to = get_or-replicate count k 0 0 to
+
+blank : IsBlankBank blank_bank
+blank = record { regs = zeros 31; pc = refl }
+
+over : (state pid parent status : ℕ) → IsOver (over_process state pid parent status)
+over state pid parent status = record {
   call = refl; done = refl; code_pages = refl; data_pages = refl; brk = refl; procedure = refl; mask = refl; flags = refl;
-  descs = zero.descs; regs = zero.regs; pc = refl; handler_save = zero.handler_save; crash_save = zero.crash_save;
+  descs = zeros 8; regs = zeros 31; pc = refl; handler_save = blank; crash_save = blank;
 }
 
-free : FitsProc free_process
+free : FitsProc (over_process 0 0 0 0)
 free = record {
   state = omega arith;
-  free = λ s. record { over = blank_over; pid = refl; parent = refl; status = refl };
+  free = λ s. record { over = over 0 0 0 0; pid = refl; parent = refl; status = refl };
   live = λ s. elim s [ inl one ↦ absurd (omega (arith, one)) | inr two ↦ absurd (omega (arith, two)) ];
   no_call = λ s. refl;
   none_done = λ s. refl;
   ended = λ s. absurd (omega (arith, s));
 }
 
-process_fits : (kind pid : ℕ) → 1 ≤ pid → pid ≤ 256 → FitsProc (process_by kind pid)
+gone : (pid : ℕ) → 1 ≤ pid → pid ≤ 256 → FitsProc (over_process 3 pid (parent_of pid) 7)
+gone pid from to = record {
+  state = omega arith;
+  free = λ s. absurd (omega (arith, s));
+  live = λ s. elim s [ inl one ↦ absurd (omega (arith, one)) | inr two ↦ absurd (omega (arith, two)) ];
+  no_call = λ s. refl;
+  none_done = λ s. refl;
+  ended = λ s. record { over = over 3 pid (parent_of pid) 7; pid = (from, to); parent = parent_fits pid; status = inl (omega arith) };
+}
+
+pub process_fits : (kind pid : ℕ) → 1 ≤ pid → pid ≤ 256 → FitsProc (process_by kind pid)
 process_fits kind pid from to = elim (cases_Bool (kind == 0)) [
     inl is ↦ rw is free
   | inr not_free ↦ rw not_free (elim (cases_Bool (kind == 1)) [
@@ -69,7 +84,7 @@ process_fits kind pid from to = elim (cases_Bool (kind == 0)) [
   | inr not_out ↦ rw not_out (elim (cases_Bool (kind == 2)) [
     inl is ↦ rw is (in_call 2 pid from to)
   | inr not_write ↦ rw not_write (elim (cases_Bool (kind == 3)) [
-    inl is ↦ rw is (ended_fits (live_process 1 0 pid) 7 (outside pid from to) refl (inl (omega arith)))
+    inl is ↦ rw is (gone pid from to)
   | inr not_ended ↦ rw not_ended (elim (cases_Bool (kind == 5)) [
     inl is ↦ rw is (in_call 3 pid from to)
   | inr not_read ↦ rw not_read (in_call 10 pid from to) ]) ]) ]) ]) ]
