@@ -22,7 +22,7 @@ last_ended u pid p status descriptions = record u {
   processes = updated u.processes pid None;
   descriptions = descriptions;
   exits = updated u.exits pid (Some status);
-  ended = λ q. cond (nat_eq q pid) (child_of (is_some (u.processes p.parent)) p.parent status) (unless_child_of pid (u.ended q));
+  ended = λ q. cond (nat_eq q pid) (child_of (is_some (updated u.processes pid None p.parent)) p.parent status) (unless_child_of pid (u.ended q));
 }
 
 -- the end of the one process
