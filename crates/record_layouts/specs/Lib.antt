@@ -24,3 +24,4 @@ pub mod Reading
 pub mod Tests
 pub mod Fitting
 pub mod Values
+pub mod Seam
