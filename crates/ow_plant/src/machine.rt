@@ -20,6 +20,24 @@ use std::marker::Model;
 /// MODE of the register satp that turns Sv32 on (RISC-V manual, volume II).
 const SV32: u32 = 1 << 31;
 
+/// How often things were done. Each count stops at its last value.
+#[derive(Clone, Copy)]
+struct Counts {
+    steps: u32,
+    traps: u32,
+    /// Stores in the trap that was begun last, and before the first at boot.
+    stores: u32,
+    all_stores: u64,
+}
+
+/// The counts of a machine that has done nothing.
+const NOTHING_DONE: Counts = Counts {
+    steps: 0,
+    traps: 0,
+    stores: 0,
+    all_stores: 0,
+};
+
 /// The machine that a kernel runs on: memory, two terminals, the processor's registers, and counts of steps,
 /// traps and stores.
 ///
@@ -40,11 +58,8 @@ pub struct Plant {
     slice: u32,
     tty0: Tty,
     tty1: Tty,
-    steps: u32,
-    traps: u32,
+    counts: Counts,
     points: PanicPoints,
-    stores: u32,
-    all_stores: u64,
     refused: bool,
     in_trap: bool,
     live: AreaId,
@@ -67,11 +82,11 @@ impl Model for Plant {
       slice = p.slice;
       tty0 = p.tty0;
       tty1 = p.tty1;
-      steps = p.steps;
-      traps = p.traps;
+      steps = p.counts.steps;
+      traps = p.counts.traps;
       points = p.points;
-      stores = p.stores;
-      all_stores = p.all_stores;
+      stores = p.counts.stores;
+      all_stores = p.counts.all_stores;
       refused = p.refused;
       in_trap = p.in_trap;
       live = p.live;
@@ -112,11 +127,8 @@ impl Plant {
             slice: 0,
             tty0: Tty::new(alloc),
             tty1: Tty::new(alloc),
-            steps: 0,
-            traps: 0,
+            counts: NOTHING_DONE,
             points: PanicPoints::none(alloc),
-            stores: 0,
-            all_stores: 0,
             refused: false,
             in_trap: false,
             live: AreaId::A,
@@ -158,11 +170,8 @@ impl Plant {
         self.in_user = false;
         self.tty0 = tty0;
         self.tty1 = tty1;
-        self.steps = 0;
-        self.traps = 0;
+        self.counts = NOTHING_DONE;
         self.points = points;
-        self.stores = 0;
-        self.all_stores = 0;
         self.refused = false;
         self.in_trap = false;
         self.live = AreaId::A;
@@ -205,13 +214,21 @@ impl Plant {
         ensures ok { OnOk result (self.new ≡ counted self.old) }
         ensures err { OnErr result (self.new ≡ refusal self.old) }
     {
-        if self.refused || self.points.is_past(self.traps, self.stores) {
-            self.refused = true;
-            return Err(Panicked);
+        if self.refused || self.points.is_past(self.counts.traps, self.counts.stores) {
+            return self.refuse();
         }
-        self.stores = self.stores.saturating_add(1);
-        self.all_stores = self.all_stores.saturating_add(1);
+        self.counts.stores = self.counts.stores.saturating_add(1);
+        self.counts.all_stores = self.counts.all_stores.saturating_add(1);
         Ok(())
+    }
+
+    /// Refuses what was asked for, and every store from now on.
+    fn refuse(&mut self) -> Result<(), Panicked>
+        ensures refuses { IsErr result }
+        ensures stands { self.new ≡ refusal self.old }
+    {
+        self.refused = true;
+        Err(Panicked)
     }
 
     /// Makes what was stored in page tables count for what a program sees. There is no translation cache yet,
@@ -264,7 +281,7 @@ impl Plant {
         requires armed { self.now.armed ≡ true }
         ensures { result ≡ self.now.steps }
     {
-        self.steps
+        self.counts.steps
     }
 
     /// The traps begun. The count stops at its last value.
@@ -272,7 +289,7 @@ impl Plant {
         requires armed { self.now.armed ≡ true }
         ensures { result ≡ self.now.traps }
     {
-        self.traps
+        self.counts.traps
     }
 
     /// The stores made in the trap that was begun last, and before the first at boot. The count stops at its last
@@ -281,7 +298,7 @@ impl Plant {
         requires armed { self.now.armed ≡ true }
         ensures { result ≡ self.now.stores }
     {
-        self.stores
+        self.counts.stores
     }
 
     /// The stores made in all. The count stops at its last value.
@@ -289,7 +306,7 @@ impl Plant {
         requires armed { self.now.armed ≡ true }
         ensures { result ≡ self.now.all_stores }
     {
-        self.all_stores
+        self.counts.all_stores
     }
 
     /// The area of the kernel that runs.
@@ -308,9 +325,9 @@ impl Plant {
         ensures fits { result.user_frames ≤ 384 }
     {
         let trap = if self.in_trap {
-            self.traps
+            self.counts.traps
         } else {
-            self.traps.saturating_add(1)
+            self.counts.traps.saturating_add(1)
         };
         Now {
             trap,
@@ -345,7 +362,7 @@ impl Plant {
         match step(&mut self.bank.regs, &mut self.bank.pc, &mut self.seen) {
             StepEnd::Next => {
                 self.slice += 1;
-                self.steps = self.steps.saturating_add(1);
+                self.counts.steps = self.counts.steps.saturating_add(1);
                 UserEnd::Next
             }
             StepEnd::Call => UserEnd::Call,
@@ -360,11 +377,14 @@ impl Plant {
     {
         self.in_user = false;
         self.in_trap = true;
-        self.traps = self.traps.saturating_add(1);
-        self.stores = 0;
+        self.counts.traps = self.counts.traps.saturating_add(1);
+        self.counts.stores = 0;
         match came {
             Came::Closing => {}
-            Came::Kernel | Came::User | Came::Call => self.steps = self.steps.saturating_add(1),
+            Came::Kernel | Came::User | Came::Call => self.counts.steps = self
+                .counts
+                .steps
+                .saturating_add(1),
         }
     }
 
@@ -376,12 +396,12 @@ impl Plant {
         ensures ok { OnOk result (self.new ≡ left_trap self.old) }
         ensures err { OnErr result (self.new ≡ refusal self.old) }
     {
-        if self.refused || self.points.has(self.traps) {
-            self.refused = true;
-            return Err(Panicked);
+        if self.refused || self.points.has(self.counts.traps) {
+            self.refuse()
+        } else {
+            self.in_trap = false;
+            Ok(())
         }
-        self.in_trap = false;
-        Ok(())
     }
 
     /// Writes a byte on a terminal, 0 or 1, whose tape must have room. It is a store, and `Panicked` comes as from

@@ -567,7 +567,10 @@ fn points_refuse(rt: HostRuntime) -> Result<(), Fail> {
         let second = first && serve(&mut plant, 2);
         assert_eq!(rt; (first, second), case.served);
         assert_eq!(rt; plant.traps(), case.trap);
-        assert_eq!(rt; (plant.stores_made(), plant.all_stores()), (case.made, case.all));
+        assert_eq!(rt;
+            (plant.stores_made(), plant.all_stores()),
+            (case.made, case.all)
+        );
         // one store more is made exactly where none was refused, and nothing follows a refusal
         let goes_on = set(&mut plant, 1, 9, 8);
         assert_eq!(rt; goes_on, second);
