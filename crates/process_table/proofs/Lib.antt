@@ -4,3 +4,7 @@ pub mod Holding
 pub mod Pending
 pub mod Working
 pub mod Ended
+pub mod Seats
+pub mod Regions
+pub mod Kept
+pub mod Endings
