@@ -70,7 +70,7 @@ others r head slot process status trap place other numbered is now = elim (same_
       let before : IsIn r place other = record { within = now.within; there = there; live = now.live } in
       other_there r slot process place other numbered is apart before ]
 
-all_were : (r : Records) (head : HeadRec) (slot : ℕ) (process : ProcRec) (status trap : ℕ) → AreNumbered r → IsIn r slot process
+pub all_were : (r : Records) (head : HeadRec) (slot : ℕ) (process : ProcRec) (status trap : ℕ) → AreNumbered r → IsIn r slot process
     → AllWere r (Some (served head trap process.pid)) (updated r.procs slot (Some (ended_process process status))) r.sigs (updated r.exits process.pid (Some (ended_exit status)))
 all_were r head slot process status trap numbered is = record {
   was = λ place other now.

@@ -8,3 +8,4 @@ pub mod Seats
 pub mod Regions
 pub mod Kept
 pub mod Endings
+pub mod EndedSound
