@@ -9,3 +9,4 @@ pub mod Regions
 pub mod Kept
 pub mod Endings
 pub mod EndedSound
+pub mod EndedUnix
