@@ -83,7 +83,7 @@ module _ (area : Area) (ranges : List WordRange) where
         | inr other ↦ let none = rw other at e in cc
       ]
 
-words_from-same : (some other : Area) (first count : ℕ) → ((number : ℕ) → first ≤ number → number < first + count → some number ≡ other number)
+pub words_from-same : (some other : Area) (first count : ℕ) → ((number : ℕ) → first ≤ number → number < first + count → some number ≡ other number)
     → words_from some first count ≡ words_from other first count
 unfolding words_from
 words_from-same some other first zero same = refl
@@ -120,10 +120,10 @@ module _ (some other : Area) (same : (number : ℕ) → 16 ≤ number → number
 within_part : (low high begin end number : ℕ) → is_within low high begin end ≡ true → lies_in begin end number ≡ true → is_within low high number (number + 1) ≡ true
 within_part low high begin end number within lies = grind (arith, nat_tests)
 
-lies_beside : (begin end number : ℕ) → may_change begin end ≡ true → may_change number (number + 1) ≡ false → lies_in begin end number ≡ false
+pub lies_beside : (begin end number : ℕ) → may_change begin end ≡ true → may_change number (number + 1) ≡ false → lies_in begin end number ≡ false
 lies_beside begin end number changes stays = grind (arith, nat_tests, within_part)
 
-laid-beside : (ranges : List WordRange) (number word : ℕ) → All IsAllowed ranges → may_change number (number + 1) ≡ false → laid ranges number word ≡ word
+pub laid-beside : (ranges : List WordRange) (number word : ℕ) → All IsAllowed ranges → may_change number (number + 1) ≡ false → laid ranges number word ≡ word
 unfolding laid
 laid-beside [] number word allowed stays = refl
 laid-beside (range ∷ ranges) number word allowed stays =
