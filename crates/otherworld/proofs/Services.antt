@@ -1,13 +1,13 @@
 -- What reading a piece and putting it comes to.
-use Rattle.std.proofs.Common.{◌≡◌, ℕ, suc, ◌+◌, ◌-◌, ◌/◌, ◌^◌, ◌<◌, ◌≤◌, true, false, List, [], ◌∷◌, ◌++◌, Option, Some, None, is_some, refl, ap, sym, ◌∙◌, arith, append_assoc}
+use Rattle.std.proofs.Common.{◌≡◌, ℕ, suc, ◌+◌, ◌-◌, ◌/◌, ◌^◌, ◌<◌, ◌≤◌, true, false, List, [], ◌∷◌, ◌++◌, length, Option, Some, None, is_some, refl, ap, sym, ◌∙◌, arith, append_assoc}
 use Rattle.std.proofs.lemmas.Bool.Decides.{nat_tests}
 use Rattle.std.proofs.lemmas.Grind.{common_steps}
 use Rattle.ow_base.specs.Screen.{Screen, drawn, drawn_all}
 use Rattle.ow_base.specs.Pages.{Pages, is_readable, bytes_at, rights_at}
-use Rattle.ow_plant.specs.State.{PlantState, with_put}
+use Rattle.ow_plant.specs.State.{PlantState, risen, risen_far, with_put}
 use Rattle.ow_base.specs.Sv32.{pages_by}
 use Rattle.phys_memory.specs.Memory.{MemoryParts}
-use Rattle.otherworld.specs.State.{with_puts, pages_at}
+use Rattle.otherworld.specs.State.{stores_after, all_stores_after, with_puts, pages_at}
 
 -- no page lies past the last address
 abbrev pub IsWithinMemory : Pages → Type 0
@@ -42,8 +42,19 @@ drawn_all-push s [] b = refl
 drawn_all-push s (x ∷ xs) b = drawn_all-push (drawn s x) xs b
 
 -- one byte more is put last
+pub stores_after-push : (made : ℕ) (xs : List ℕ) (b : ℕ) → stores_after made (length (xs ++ b ∷ [])) ≡ risen (stores_after made (length xs))
+stores_after-push made [] b = refl
+stores_after-push made (x ∷ xs) b = ap risen (stores_after-push made xs b)
+
+pub all_stores_after-push : (made : ℕ) (xs : List ℕ) (b : ℕ) → all_stores_after made (length (xs ++ b ∷ [])) ≡ risen_far (all_stores_after made (length xs))
+all_stores_after-push made [] b = refl
+all_stores_after-push made (x ∷ xs) b = ap risen_far (all_stores_after-push made xs b)
+
+pub with_puts-none : (s : PlantState) (tty : ℕ) → with_puts s tty [] ≡ s
+with_puts-none s tty = grind (arith, common_steps)
+
 pub with_puts-push : (s : PlantState) (tty : ℕ) (xs : List ℕ) (b : ℕ) → with_put (with_puts s tty xs) tty b ≡ with_puts s tty (xs ++ b ∷ [])
-with_puts-push s tty xs b = grind (arith, common_steps, drawn_all-push)
+with_puts-push s tty xs b = grind (arith, common_steps, drawn_all-push, stores_after-push, all_stores_after-push)
 
 -- a piece is stopped at offset k, past the last address or at a byte in no page
 pub stopped_past : (pages : Pages) (a n k : ℕ) → k < n → IsWithinMemory pages → 2 ^ 32 ≤ a + k → is_readable pages (a + k) (n - k) ≡ is_readable pages a n → is_readable pages a n ≡ false

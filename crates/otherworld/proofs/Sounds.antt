@@ -6,7 +6,7 @@ use Rattle.ow_base.specs.UserStep.{Stepped, Next, Call, Faulted}
 use Rattle.ow_base.specs.Pages.{Pages}
 use Rattle.ow_base.specs.declared.machine.Bank.{Bank}
 use Rattle.ow_base.specs.declared.machine.Fault.{Fault}
-use Rattle.ow_plant.specs.State.{PlantState, risen, tty_of, Terminal as Device}
+use Rattle.ow_plant.specs.State.{PlantState, risen, left_trap, tty_of, Terminal as Device}
 use Rattle.otherworld.specs.State.{pages_at, StepsOn, TakesTurn}
 use Rattle.ow_plant.specs.declared.UserEnd.TheVariants as end
 use Rattle.otherworld.specs.declared.kernel_traps.Life.{Life}
@@ -61,6 +61,7 @@ next_kept s memory bank k sound few kept =
     record {
       sound = record {
         armed = sound.armed;
+        never_refuses = sound.never_refuses;
         tty = sound.tty;
         last = sound.last;
         life = sound.life;
@@ -84,18 +85,20 @@ next_sound s new k sound few taken =
 
 -- the plant in a trap of the process
 abbrev in_trap : PlantState → PlantState
-in_trap s = record s { in_user = false; traps = risen s.traps; steps = risen s.steps }
+in_trap s = record s { in_user = false; in_trap = true; traps = risen s.traps; stores = 0; steps = risen s.steps }
 
--- a trap in which the terminals become these
-trap_kept : (s : PlantState) (tty : ℕ) (life : Life) (t0 t1 : Device) (k : Kernel) → IsSound s k → s.steps < s.shape.budget → tty < 2
+-- a trap in which the terminals become these, and so many stores are made
+trap_kept : (s : PlantState) (tty : ℕ) (life : Life) (t0 t1 : Device) (made all : ℕ) (k : Kernel) → IsSound s k → s.steps < s.shape.budget → tty < 2
     → IsTerminalSound t0 (s.steps + 1) s.shape.budget → IsTerminalSound t1 (s.steps + 1) s.shape.budget
-    → IsLifeSound (record (in_trap s) { tty0 = t0; tty1 = t1 }) life → IsTurned s (record (in_trap s) { tty0 = t0; tty1 = t1 }) (kernel_in tty life)
-trap_kept s tty life t0 t1 k sound few which sound0 sound1 alive =
+    → IsLifeSound (record (in_trap s) { tty0 = t0; tty1 = t1; stores = made; all_stores = all }) life
+    → IsTurned s (record (in_trap s) { tty0 = t0; tty1 = t1; stores = made; all_stores = all }) (kernel_in tty life)
+trap_kept s tty life t0 t1 made all k sound few which sound0 sound1 alive =
     let step_more : risen s.steps ≡ s.steps + 1 = omega (arith, sound.small) in
     let trap_more : risen s.traps ≡ s.traps + 1 = omega (arith, sound.small, sound.few_traps) in
     record {
       sound = record {
         armed = sound.armed;
+        never_refuses = sound.never_refuses;
         tty = which;
         last = omega arith;
         life = alive;
@@ -116,15 +119,47 @@ trap_kept s tty life t0 t1 k sound few which sound0 sound1 alive =
 served_kept : (s : PlantState) (tty : ℕ) (life : Life) (bytes : List ℕ) (k : Kernel) → IsSound s k → s.steps < s.shape.budget → tty < 2
     → length bytes ≤ 16 → IsLifeSound (with_puts (in_trap s) tty bytes) life → IsTurned s (with_puts (in_trap s) tty bytes) (kernel_in tty life)
 served_kept s zero life bytes k sound few which short alive =
-    trap_kept s 0 life (puts_on s.tty0 bytes) s.tty1 k sound few which (put_terminal s.tty0 bytes s.steps s.shape.budget short sound.tty0) (kept_terminal s.tty1 s.steps s.shape.budget sound.tty1) alive
+    trap_kept s 0 life (puts_on s.tty0 bytes) s.tty1 _ _ k sound few which (put_terminal s.tty0 bytes s.steps s.shape.budget short sound.tty0) (kept_terminal s.tty1 s.steps s.shape.budget sound.tty1) alive
 served_kept s (suc zero) life bytes k sound few which short alive =
-    trap_kept s 1 life s.tty0 (puts_on s.tty1 bytes) k sound few which (kept_terminal s.tty0 s.steps s.shape.budget sound.tty0) (put_terminal s.tty1 bytes s.steps s.shape.budget short sound.tty1) alive
+    trap_kept s 1 life s.tty0 (puts_on s.tty1 bytes) _ _ k sound few which (kept_terminal s.tty0 s.steps s.shape.budget sound.tty0) (put_terminal s.tty1 bytes s.steps s.shape.budget short sound.tty1) alive
 served_kept s (suc (suc n)) life bytes k sound few which short alive = absurd (omega arith)
 
 pub served_sound : (s new : PlantState) (k : Kernel) (life : Life) → IsSound s k → s.steps < s.shape.budget → IsServed k.tty (in_trap s) new life → IsTurned s new (kernel_in k.tty life)
 served_sound s new k life sound few served =
     subst (λ (n : PlantState). IsTurned s n (kernel_in k.tty life)) (sym served.put)
     (served_kept s k.tty life served.bytes k sound few sound.tty served.few (subst (λ (n : PlantState). IsLifeSound n life) served.put served.sound))
+
+-- a trap in which nothing is stored
+pub quiet_sound : (s : PlantState) (k : Kernel) (life : Life) → IsSound s k → s.steps < s.shape.budget → IsLifeSound (in_trap s) life → IsTurned s (in_trap s) (kernel_in k.tty life)
+quiet_sound s k life sound few alive =
+    trap_kept s k.tty life s.tty0 s.tty1 0 s.all_stores k sound few sound.tty (kept_terminal s.tty0 s.steps s.shape.budget sound.tty0) (kept_terminal s.tty1 s.steps s.shape.budget sound.tty1) alive
+
+-- the end of a trap
+left_life : (s : PlantState) (life : Life) → IsLifeSound s life → IsLifeSound (left_trap s) life
+left_life s (Outside b) alive = alive
+left_life s (Writing b d) alive = alive
+left_life s (Ended st) alive = alive
+
+pub left_turned : (s new : PlantState) (k : Kernel) → IsTurned s new k → IsTurned s (left_trap new) k
+left_turned s new k turned = record {
+  sound = record {
+    armed = turned.sound.armed;
+    never_refuses = turned.sound.never_refuses;
+    tty = turned.sound.tty;
+    last = turned.sound.last;
+    life = left_life new k.life turned.sound.life;
+    pages = turned.sound.pages;
+    in_use = turned.sound.in_use;
+    budget = turned.sound.budget;
+    small = turned.sound.small;
+    few_traps = turned.sound.few_traps;
+    tty0 = turned.sound.tty0;
+    tty1 = turned.sound.tty1;
+    no_history = turned.sound.no_history;
+  };
+  same_shape = turned.same_shape;
+  one_step = turned.one_step;
+}
 
 -- in a trap the plant is in the kernel, with room for a piece
 room_of : (s : PlantState) (tty : ℕ) (k : Kernel) → IsSound s k → s.steps < s.shape.budget → tty < 2 → length (tty_of (in_trap s) tty).tape + 16 ≤ (tty_of (in_trap s) tty).room
@@ -135,6 +170,7 @@ room_of s (suc (suc n)) k sound few which = absurd (omega arith)
 pub service_of : (s : PlantState) (k : Kernel) → IsSound s k → s.steps < s.shape.budget → IsInService (in_trap s) k.tty
 service_of s k sound few = record {
   armed = sound.armed;
+  never_refuses = sound.never_refuses;
   in_kernel = refl;
   which = sound.tty;
   pages = sound.pages;

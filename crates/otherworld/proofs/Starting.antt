@@ -9,7 +9,7 @@ use Rattle.ow_base.specs.declared.worlds.Start.{Start as Started}
 use Rattle.ow_plant.specs.State.{PlantState, silent_terminal as silent_device, Terminal as Device}
 use Rattle.otherworld.specs.State.{pages_at}
 use Rattle.otherworld.specs.declared.kernel_traps.Life.TheVariants.{Outside}
-use Rattle.otherworld.specs.State.{HasPages, unix_of, only, process_in, the_description, terminals_of, IsLoadOf, IsTerminalSound, IsSound}
+use Rattle.otherworld.specs.State.{HasPages, NeverRefuses, unix_of, only, process_in, the_description, terminals_of, IsLoadOf, IsTerminalSound, IsSound}
 
 module _ (load : Load) (program : Program) (start : Started) (built : IsLoadOf load program start) where
   starts_process : (pid : ℕ) → only (Some (process_in Out started_bank (started_pages program))) pid ≡ started_as load pid
@@ -70,10 +70,11 @@ silent_sound t room n budget e f = record { shown = rw e refl; few = rw e (omega
 
 -- the state after boot is sound
 pub IsSound-booted : (s : PlantState) (tty : ℕ) (b : Bank) → tty < 2 → s.shape.budget ≤ 2000000
-    → s.armed ≡ true → s.in_user ≡ false → HasPages s.shape.user_frames s.memory → s.tty0 ≡ silent_device (16 * s.shape.budget) → s.tty1 ≡ silent_device (16 * s.shape.budget) → s.steps ≡ 0 → s.traps ≡ 0 → s.history ≡ []
+    → s.armed ≡ true → NeverRefuses s → s.in_user ≡ false → HasPages s.shape.user_frames s.memory → s.tty0 ≡ silent_device (16 * s.shape.budget) → s.tty1 ≡ silent_device (16 * s.shape.budget) → s.steps ≡ 0 → s.traps ≡ 0 → s.history ≡ []
     → IsSound s (record { tty = tty; last = 0; life = Outside b })
-IsSound-booted s tty b which small armed idle pages tty0 tty1 steps traps history = record {
+IsSound-booted s tty b which small armed never idle pages tty0 tty1 steps traps history = record {
   armed = armed;
+  never_refuses = never;
   tty = which;
   last = omega arith;
   life = tt;

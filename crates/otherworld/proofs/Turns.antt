@@ -15,7 +15,7 @@ use Rattle.ow_base.specs.declared.machine.Fault.{Fault}
 use Rattle.ow_base.specs.declared.machine.Shape.{Shape}
 use Rattle.ow_base.specs.declared.machine.Came.{Came}
 use Rattle.ow_base.specs.declared.machine.Came.TheVariants as came
-use Rattle.ow_plant.specs.State.{PlantState, entered, returned_to, risen}
+use Rattle.ow_plant.specs.State.{PlantState, entered, left_trap, returned_to, risen}
 use Rattle.otherworld.specs.State.{pages_at, StepsOn, TakesTurn}
 use Rattle.ow_plant.specs.declared.UserEnd.TheVariants as end
 use Rattle.otherworld.specs.declared.kernel_traps.Life.{Life}
@@ -33,7 +33,7 @@ unfolding unix_of turn_at kernel_at
 at_user q s tty last b h = rw h refl
 
 -- a trap of the process in user mode counts
-pub traps_user : (s : PlantState) (tty last : ℕ) (b : Bank) (c : Came) → (entered s c ≡ record s { in_user = false; traps = risen s.traps; steps = risen s.steps }) → s.in_user ≡ true → s.steps < 2 ^ 32 - 1 → s.traps < 2 ^ 32 - 1
+pub traps_user : (s : PlantState) (tty last : ℕ) (b : Bank) (c : Came) → (entered s c ≡ record s { in_user = false; in_trap = true; traps = risen s.traps; stores = 0; steps = risen s.steps }) → s.in_user ≡ true → s.steps < 2 ^ 32 - 1 → s.traps < 2 ^ 32 - 1
     → unix_of (entered s c) (kernel_in tty (Outside s.bank)) ≡ trapped (unix_of s (record { tty = tty; last = last; life = Outside b })) 1
 unfolding unix_of trapped
 traps_user s tty last b c e h steps traps = rw (e, h) (grind (arith, common_steps))
@@ -199,6 +199,11 @@ turn_settled shape u v e = ap (λ (w : Unix). turn_at shape.quantum w w.position
 
 pub in_kernel_at : (s : PlantState) (k : Kernel) → s.in_user ≡ false → (unix_of s k).position ≡ AtKernel
 in_kernel_at = in_kernel
+
+-- the end of a trap changes nothing that the Unix sees
+pub unix_of-left : (s : PlantState) (k : Kernel) → unix_of (left_trap s) k ≡ unix_of s k
+unfolding unix_of
+unix_of-left s k = refl
 
 -- the closing trap, of a process in user mode, and of none
 pub closes_user : (s : PlantState) (tty last : ℕ) (b : Bank) → s.in_user ≡ true → s.traps < 2 ^ 32 - 1

@@ -1,5 +1,5 @@
 -- What boot makes of memory: the words of a program, and the page tables that map its pages to frames.
-use Rattle.std.specs.Prelude.{ℕ, ◌+◌, ◌-◌, ◌*◌, nat_lt, ◌&&◌, ◌==◌, if◌then◌else◌, List, length, slice_index, Option, Some, None}
+use Rattle.std.specs.Prelude.{◌≡◌, ℕ, ◌+◌, ◌-◌, ◌*◌, nat_lt, ◌&&◌, ◌==◌, if◌then◌else◌, List, length, slice_index, Option, Some, None}
 use Rattle.ow_base.specs.Sv32.{WordMap}
 use Rattle.record_layouts.specs.Unix.{is_within}
 use Rattle.ow_base.specs.World.{page_count}
@@ -8,7 +8,12 @@ use Rattle.ow_base.specs.declared.machine.Rights.TheVariants.{Code, Values}
 use Rattle.ow_base.specs.declared.worlds.Program.{Program}
 use Rattle.sv32_tables.specs.Entries.{leaf_word, pointer_word}
 use Rattle.sv32_tables.specs.Spaces.{Mapping}
+use Rattle.ow_plant.specs.State.{PlantState}
 use Rattle.otherworld.specs.State.{root_frame, low_frame, high_frame, first_page_frame}
+
+-- words of memory were set, each by a store, and the plant is else as it was
+abbrev pub HasStored : (old new : PlantState) → Type 0
+HasStored old new = new ≡ record old { memory = new.memory; stores = new.stores; all_stores = new.all_stores }
 
 -- so many of these words lie in frames from a first one on; all other words are as they were
 unfoldable pub with_words : WordMap → (first count : ℕ) → (words : List ℕ) → WordMap

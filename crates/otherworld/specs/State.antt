@@ -1,5 +1,5 @@
 -- Which state of the Unix a plant and the kernel's own words stand for.
-use Rattle.std.specs.Prelude.{◌≡◌, ℕ, ◌+◌, ◌*◌, ◌<◌, ◌≤◌, true, false, MatchBool, nat_lt, ◌==◌, if◌then◌else◌, List, [], ◌∷◌, ◌++◌, length, replicate, slice_get, Option, Some, None}
+use Rattle.std.specs.Prelude.{◌≡◌, ℕ, ◌+◌, ◌*◌, ◌<◌, ◌≤◌, true, false, MatchBool, nat_lt, ◌==◌, if◌then◌else◌, List, [], ◌∷◌, ◌++◌, length, replicate, slice_get, Option, Some, None, zero, suc}
 use Rattle.ow_base.specs.Screen.{screen_of, drawn_all}
 use Rattle.ow_base.specs.Words.{wrapped, minus}
 use Rattle.ow_base.specs.Pages.{Pages, page_space}
@@ -13,7 +13,7 @@ use Rattle.ow_base.specs.declared.worlds.Program.{Program}
 use Rattle.ow_base.specs.declared.worlds.Start.{Start as Started}
 use Rattle.phys_memory.specs.Memory.{MemoryParts, words_of, IsSized}
 use Rattle.sv32_tables.specs.Spaces.{Mapping, IsMapped, satp_of}
-use Rattle.ow_plant.specs.State.{PlantState, tty_of, risen, Terminal as Device}
+use Rattle.ow_plant.specs.State.{PlantState, tty_of, risen, risen_far, Terminal as Device}
 use Rattle.ow_plant.specs.declared.UserEnd.{UserEnd}
 use Rattle.ow_plant.specs.declared.UserEnd.TheVariants as end
 use Rattle.otherworld.specs.declared.kernel_traps.Life.{Life}
@@ -105,6 +105,10 @@ unix_of s k = record {
   position = position_of s;
 }
 
+-- no store and no end of a trap is refused: no panic comes on the machine
+abbrev pub NeverRefuses : PlantState → Type 0
+NeverRefuses s = (s.points ≡ []) × (s.refused ≡ false)
+
 -- the process has not ended
 abbrev pub IsLive : Life → Type 0
 IsLive (Outside bank) = Unit {0}
@@ -133,8 +137,20 @@ pub record IsTerminalSound (t : Device) (steps budget : ℕ) : Type 0 where
 abbrev pub puts_on : Device → (bytes : List ℕ) → Device
 puts_on t bytes = record t { tape = t.tape ++ bytes; display = drawn_all t.display bytes }
 
+-- so many stores are counted
+abbrev pub stores_after : (made count : ℕ) → ℕ
+stores_after made zero = made
+stores_after made (suc count) = risen (stores_after made count)
+
+abbrev pub all_stores_after : (made count : ℕ) → ℕ
+all_stores_after made zero = made
+all_stores_after made (suc count) = risen_far (all_stores_after made count)
+
+abbrev pub stored_often : PlantState → (count : ℕ) → PlantState
+stored_often s count = record s { stores = stores_after s.stores count; all_stores = all_stores_after s.all_stores count }
+
 abbrev pub with_puts : PlantState → (tty : ℕ) → (bytes : List ℕ) → PlantState
-with_puts s tty bytes = if tty == 0 then record s { tty0 = puts_on s.tty0 bytes } else record s { tty1 = puts_on s.tty1 bytes }
+with_puts s tty bytes = if tty == 0 then record (stored_often s (length bytes)) { tty0 = puts_on s.tty0 bytes } else record (stored_often s (length bytes)) { tty1 = puts_on s.tty1 bytes }
 
 -- the kernel's words in a trap of the process
 abbrev pub kernel_in : (tty : ℕ) → Life → Kernel
@@ -174,6 +190,7 @@ pub record IsServed (tty : ℕ) (old new : PlantState) (life : Life) : Type 0 wh
 -- in the kernel, with room for a piece on a terminal
 pub record IsInService (s : PlantState) (tty : ℕ) : Type 0 where
   pub armed : s.armed ≡ true
+  pub never_refuses : NeverRefuses s
   pub in_kernel : s.in_user ≡ false
   pub which : tty < 2
   pub pages : HasPages s.shape.user_frames s.memory
@@ -182,6 +199,7 @@ pub record IsInService (s : PlantState) (tty : ℕ) : Type 0 where
 -- between turns
 pub record IsSound (s : PlantState) (k : Kernel) : Type 0 where
   pub armed : s.armed ≡ true
+  pub never_refuses : NeverRefuses s
   pub tty : k.tty < 2
   pub last : k.last ≤ 1
   pub life : IsLifeSound s k.life

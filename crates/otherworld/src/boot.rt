@@ -5,8 +5,8 @@ ghost use Rattle.ow_base.specs.World.{started_page_count};
 ghost use Rattle.ow_base.specs.declared.worlds.Load.{Load};
 ghost use Rattle.phys_memory.specs.Memory.{IsSized, words_of, frame_count};
 ghost use Rattle.ow_plant.specs.State.{IsReady, with_stored};
-ghost use Rattle.otherworld.specs.State.{unix_of, IsLoadOf, IsSound};
-ghost use Rattle.otherworld.specs.Boot.{with_words, with_leaves, with_program, with_tables};
+ghost use Rattle.otherworld.specs.State.{unix_of, NeverRefuses, IsLoadOf, IsSound};
+ghost use Rattle.otherworld.specs.Boot.{HasStored, with_words, with_leaves, with_program, with_tables};
 
 use crate::kernel_traps::{Kernel, Life};
 use ow_base::{Bank, Panicked, Program, Regs, Rights, Start};
@@ -45,9 +45,10 @@ const STACK_POINTER: u32 = 2;
 /// The address where the code begins.
 const CODE_START: u32 = 0x10000;
 
-/// Sets a word of memory. While the machine boots no store is refused.
+/// Sets a word of memory, on a machine that refuses no store.
 fn set_word(plant: &mut Plant, frame: u32, place: u32, value: u32)
     requires armed { plant.old.armed ≡ true }
+    requires never { NeverRefuses plant.old }
     requires place { place < 1024 }
     requires frame { frame < frame_count plant.old.memory }
     ensures { plant.new ≡ with_stored plant.old frame place value }
@@ -61,13 +62,14 @@ fn set_word(plant: &mut Plant, frame: u32, place: u32, value: u32)
 /// Stores words in frames from a first one on.
 fn store_words(plant: &mut Plant, first: u32, words: &[u32])
     requires armed { plant.old.armed ≡ true }
+    requires never { NeverRefuses plant.old }
     requires sized { IsSized plant.old.shape.user_frames plant.old.memory }
     requires first { first < 2 ^ 22 }
     requires few { length words.now ≤ 65536 }
     requires room { 1024 * first + length words.now ≤ 1024 * (129 + plant.old.shape.user_frames) }
     ensures words { words_of plant.new.memory ≡ with_words (words_of plant.old.memory) first (length words.now) words.now }
     ensures sized { IsSized plant.old.shape.user_frames plant.new.memory }
-    ensures rest { plant.new ≡ record plant.old { memory = plant.new.memory } }
+    ensures rest { HasStored plant.old plant.new }
 {
     for (place, word) in words.iter().enumerate() {
         set_word(
@@ -82,13 +84,14 @@ fn store_words(plant: &mut Plant, first: u32, words: &[u32])
 /// Maps pages, from an entry of a table on, to frames that lie one behind the other.
 fn map_pages(plant: &mut Plant, table: u32, first: u32, count: u32, frame: u32, rights: Rights)
     requires armed { plant.old.armed ≡ true }
+    requires never { NeverRefuses plant.old }
     requires sized { IsSized plant.old.shape.user_frames plant.old.memory }
     requires table { table < 129 }
     requires entries { first + count ≤ 1024 }
     requires frames { frame + count < 2 ^ 22 }
     ensures words { words_of plant.new.memory ≡ with_leaves (words_of plant.old.memory) table first count frame rights }
     ensures sized { IsSized plant.old.shape.user_frames plant.new.memory }
-    ensures rest { plant.new ≡ record plant.old { memory = plant.new.memory } }
+    ensures rest { HasStored plant.old plant.new }
 {
     for page in 0..count {
         set_word(plant, table, first + page, leaf(frame + page, rights));
@@ -106,13 +109,14 @@ fn pages_for(words: &[u32]) -> u32
 /// Stores the words of a program: its code in the first frames for pages, its data in those behind.
 fn store_program(plant: &mut Plant, program: &Program)
     requires armed { plant.old.armed ≡ true }
+    requires never { NeverRefuses plant.old }
     requires sized { IsSized plant.old.shape.user_frames plant.old.memory }
     requires short_code { length program.now.code ≤ 65536 }
     requires short_values { length program.now.values ≤ 65536 }
     requires frames { started_page_count program.now ≤ plant.old.shape.user_frames }
     ensures words { words_of plant.new.memory ≡ with_program (words_of plant.old.memory) program.now }
     ensures sized { IsSized plant.old.shape.user_frames plant.new.memory }
-    ensures rest { plant.new ≡ record plant.old { memory = plant.new.memory } }
+    ensures rest { HasStored plant.old plant.new }
 {
     store_words(plant, FIRST_PAGE_FRAME, program.code.items());
     let first = FIRST_PAGE_FRAME + pages_for(program.code.items());
@@ -123,12 +127,13 @@ fn store_program(plant: &mut Plant, program: &Program)
 /// page has the next frame.
 fn build_tables(plant: &mut Plant, code_pages: u32, values_pages: u32)
     requires armed { plant.old.armed ≡ true }
+    requires never { NeverRefuses plant.old }
     requires sized { IsSized plant.old.shape.user_frames plant.old.memory }
     requires few { code_pages ≤ 64 }
     requires few_values { values_pages ≤ 64 }
     ensures words { words_of plant.new.memory ≡ with_tables (words_of plant.old.memory) code_pages values_pages }
     ensures sized { IsSized plant.old.shape.user_frames plant.new.memory }
-    ensures rest { plant.new ≡ record plant.old { memory = plant.new.memory } }
+    ensures rest { HasStored plant.old plant.new }
 {
     let values = FIRST_PAGE_FRAME + code_pages;
     let stack = values + values_pages;
@@ -169,6 +174,7 @@ fn build_tables(plant: &mut Plant, code_pages: u32, values_pages: u32)
 /// page tables that show them to it.
 pub fn boot(plant: &mut Plant, program: &Program, start: &Start) -> Kernel
     requires ready { IsReady plant.old.shape plant.old }
+    requires never { NeverRefuses plant.old }
     requires short_code { length program.now.code ≤ 65536 }
     requires short_values { length program.now.values ≤ 65536 }
     requires frames { started_page_count program.now ≤ plant.old.shape.user_frames }

@@ -5,9 +5,9 @@ ghost use Rattle.record_layouts.specs.Unix.{AtKernel};
 ghost use Rattle.record_layouts.specs.Calls.{tty_write, write_entry as write_entered, called, call_number};
 ghost use Rattle.record_layouts.specs.Turn.{turn, turn_at, closed};
 ghost use Rattle.ow_base.specs.Pages.{rights_at};
-ghost use Rattle.ow_plant.specs.State.{entered, tty_of};
+ghost use Rattle.ow_plant.specs.State.{entered, left_trap, tty_of};
 ghost use Rattle.sv32_tables.specs.Spaces.{satp_of};
-ghost use Rattle.otherworld.specs.State.{root_frame, pages_at, HasPages, TakesTurn, with_puts, unix_of, kernel_in, IsServed, IsInService, IsWriting, IsMadeBy, answered_life, stopped_life, written_life, number_of, IsSound, IsTurned, IsLive, IsClosed};
+ghost use Rattle.otherworld.specs.State.{root_frame, pages_at, HasPages, TakesTurn, with_puts, unix_of, kernel_in, NeverRefuses, IsServed, IsInService, IsWriting, IsMadeBy, answered_life, stopped_life, written_life, number_of, IsSound, IsTurned, IsLive, IsClosed};
 
 use crate::boot::ROOT_FRAME;
 use arrayvec::ArrayVec;
@@ -141,6 +141,7 @@ fn piece_bytes(plant: &Plant, address: u64, length: u32) -> Option<ArrayVec<u8, 
 /// Puts bytes on a terminal, one after the other.
 fn put_bytes(plant: &mut Plant, tty: u32, bytes: &[u8]) -> Result<(), Panicked>
     requires armed { plant.old.armed ≡ true }
+    requires never { NeverRefuses plant.old }
     requires which { tty < 2 }
     requires room { length (tty_of plant.old tty).tape + length bytes.now ≤ (tty_of plant.old tty).room }
     ensures ok { IsOk result }
@@ -246,6 +247,16 @@ fn begin_trap(plant: &mut Plant, kernel: &mut Kernel, came: Came)
     kernel.life = Life::Outside(*plant.bank());
 }
 
+/// The kernel's work for a trap ends, on a machine that refuses nothing.
+fn end_trap(plant: &mut Plant) -> Result<(), Panicked>
+    requires armed { plant.old.armed ≡ true }
+    requires never { NeverRefuses plant.old }
+    ensures ok { IsOk result }
+    ensures left { plant.new ≡ left_trap plant.old }
+{
+    plant.leave()
+}
+
 /// A turn of the process in user mode on the plant, as its pages show it.
 fn user_step(plant: &mut Plant) -> UserEnd
     requires armed { plant.old.armed ≡ true }
@@ -271,18 +282,18 @@ fn user_turn(plant: &mut Plant, kernel: &mut Kernel) -> Result<(), Panicked>
         UserEnd::Next => Ok(()),
         UserEnd::Slice => {
             begin_trap(plant, kernel, Came::User);
-            plant.leave()
+            end_trap(plant)
         }
         UserEnd::Call => {
             begin_trap(plant, kernel, Came::Call);
             let bank = *plant.bank();
             kernel.life = serve_call(plant, kernel.tty, &bank)?;
-            plant.leave()
+            end_trap(plant)
         }
         UserEnd::Fault(fault) => {
             begin_trap(plant, kernel, Came::User);
             kernel.life = Life::Ended(FAULT + fault.cause);
-            plant.leave()
+            end_trap(plant)
         }
     }
 }
@@ -304,7 +315,7 @@ fn piece_turn(
     plant.enter(Came::Kernel, PID);
     kernel.last = PID;
     kernel.life = write_piece(plant, kernel.tty, bank, done)?;
-    plant.leave()
+    end_trap(plant)
 }
 
 /// One turn of the machine: a user instruction, or a trap. The process is live.
@@ -348,5 +359,5 @@ pub fn shutdown(plant: &mut Plant, kernel: &mut Kernel) -> Result<(), Panicked>
     } else {
         plant.enter(Came::Closing, NO_PID);
     }
-    plant.leave()
+    end_trap(plant)
 }

@@ -4,7 +4,7 @@ ghost use Rattle.ow_base.specs.World.{IsWorld};
 ghost use Rattle.world_file.specs.WorldRefusals.{IsBuilt};
 ghost use Rattle.ow_base.specs.declared.worlds.Ending.{Ending};
 ghost use Rattle.ow_plant.specs.State.{IsReady};
-ghost use Rattle.otherworld.specs.State.{IsLoadOf};
+ghost use Rattle.otherworld.specs.State.{NeverRefuses, IsLoadOf};
 ghost use Rattle.otherworld.specs.Top.{unread_status, is_run as is_run_alone, refusal_text, bad_world_text, status_of as status_at, Intends, IsSaid, IsRead, IsReported, Answers};
 
 use crate::boot::boot;
@@ -145,6 +145,7 @@ fn load_world<S: Source>(alloc: Global, source: &mut S, plant: &mut Plant) -> Re
     ensures read { IfOk result (IsRead (S.left source.old) (S.left source.new)) }
     ensures built { IfOk result IsBuilt }
     ensures ready { IfOk result (λ world. IsReady world.load.shape plant.new) }
+    ensures never { IfOk result (λ _. NeverRefuses plant.new) }
     ensures refused { IfErr result (λ status. Intends true (S.left source.old) (S.left source.new) (Rose (S.faults source.old) (S.faults source.new)) plant.old plant.new status (refusal_text status)) }
     ensures never_falls { S.faults source.old ≤ S.faults source.new }
 {
@@ -185,6 +186,7 @@ fn one_start(world: &World) -> (&Program, &Start)
 /// Runs a world on the plant that is armed for it, and writes the report.
 fn run_world<K: Sink>(world: &World, plant: &mut Plant, sink: &mut K) -> Status
     requires ready { IsReady world.now.load.shape plant.old }
+    requires never { NeverRefuses plant.old }
     requires value { (input : List ℕ) × IsWorld input world.now }
     requires built { IsBuilt world.now }
     ensures reported { (ending : Ending) × (text : List ℕ) × IsReported world.now plant.new ending text

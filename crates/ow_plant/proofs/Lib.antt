@@ -1,3 +1,4 @@
--- Lemmas of the plant: its displays, and programs on their page tables.
+-- Lemmas of the plant: its displays, that it stays armed, and programs on their page tables.
 pub mod Rows
+pub mod Armed
 pub mod Programs

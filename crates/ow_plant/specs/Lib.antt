@@ -1,2 +1,3 @@
 -- The definitions that the plant's contracts cite.
+pub mod Points
 pub mod State

@@ -1,15 +1,21 @@
 -- What contracts see of the plant.
-use Rattle.std.specs.Prelude.{◌≡◌, ℕ, ◌+◌, ◌-◌, ◌*◌, ◌^◌, min, Bool, true, false, MatchBool, nat_lt, ◌==◌, if◌then◌else◌, List, [], ◌∷◌, ◌++◌}
+use Rattle.std.specs.Prelude.{◌≡◌, ℕ, ◌+◌, ◌-◌, ◌*◌, ◌^◌, ◌≤◌, min, Bool, true, false, MatchBool, nat_lt, ◌==◌, ◌||◌, if◌then◌else◌, List, [], ◌∷◌, ◌++◌}
+use Rattle.std.specs.List.{list_any}
 use Rattle.ow_base.specs.Screen.{Screen, blank_screen, drawn}
 use Rattle.ow_base.specs.Sv32.{sv32_space}
 use Rattle.ow_base.specs.UserStep.{Spaces, Stepped, Next, Call, Faulted, user_step}
 use Rattle.sv32_tables.specs.Spaces.{satp_of}
-use Rattle.phys_memory.specs.Memory.{MemoryParts, words_of, with_word, zeroed}
+use Rattle.phys_memory.specs.Memory.{MemoryParts, IsSized, frame_count, words_of, with_word, zeroed}
+use Rattle.ow_base.specs.declared.machine.AreaId.{AreaId}
+use Rattle.ow_base.specs.declared.machine.AreaId.TheVariants as area
 use Rattle.ow_base.specs.declared.machine.Bank.{Bank}
+use Rattle.ow_base.specs.declared.machine.Now.{Now}
 use Rattle.ow_base.specs.declared.machine.Shape.{Shape}
 use Rattle.ow_base.specs.declared.machine.Came.{Came}
 use Rattle.ow_base.specs.declared.machine.Came.TheVariants as came
 use Rattle.ow_base.specs.declared.worlds.PanicRecord.{PanicRecord}
+use Rattle.ow_plant.specs.Points.{is_in, is_past}
+use Rattle.ow_plant.specs.declared.points.PanicPoint.{PanicPoint}
 use Rattle.ow_plant.specs.declared.UserEnd.{UserEnd}
 use Rattle.ow_plant.specs.declared.UserEnd.TheVariants as end
 
@@ -44,11 +50,26 @@ pub record PlantState : Type 0 where
   pub tty1 : Terminal
   pub steps : ℕ
   pub traps : ℕ
+  -- where panics come; no call tells a program
+  pub points : List PanicPoint
+  -- stores made in the trap that was begun last, or at boot, and in all
+  pub stores : ℕ
+  pub all_stores : ℕ
+  -- a refusal stands: no store is made
+  pub refused : Bool
+  -- a trap was begun and has not been left
+  pub in_trap : Bool
+  -- the area of the kernel that runs
+  pub live : AreaId
   pub history : List PanicRecord
 
 -- a count of 32 bits rises, and stands still at its last value
 abbrev pub risen : ℕ → ℕ
 risen n = min (n + 1) (2 ^ 32 - 1)
+
+-- and one of 64 bits
+abbrev pub risen_far : ℕ → ℕ
+risen_far n = min (n + 1) (2 ^ 64 - 1)
 
 -- a terminal on which nothing was written
 abbrev pub silent_terminal : (room : ℕ) → Terminal
@@ -64,7 +85,49 @@ pub record IsReady (shape : Shape) (s : PlantState) : Type 0 where
   pub tty1 : s.tty1 ≡ silent_terminal (16 * shape.budget)
   pub no_steps : s.steps ≡ 0
   pub no_traps : s.traps ≡ 0
+  pub no_stores : s.stores ≡ 0
+  pub none_in_all : s.all_stores ≡ 0
+  pub not_refused : s.refused ≡ false
+  pub no_trap_runs : s.in_trap ≡ false
+  pub of_area : s.live ≡ area.A
   pub no_history : s.history ≡ []
+
+-- a plant that is armed: its memory has the size of its shape
+pub record IsArmed (s : PlantState) : Type 0 where
+  pub armed : s.armed ≡ true
+  pub sized : IsSized s.shape.user_frames s.memory
+  pub few_frames : s.shape.user_frames ≤ 384
+
+-- what holds of every plant: it has no frame before it is armed, and never more than 384 for pages in a half
+pub record HasFramesArmed (armed : Bool) (shape : Shape) (memory : MemoryParts) : Type 0 where
+  pub none_before : armed ≡ false → frame_count memory ≡ 0
+  pub few_frames : shape.user_frames ≤ 384
+
+-- a store is refused where a refusal stands, or a point of this trap has come
+abbrev pub refuses : PlantState → Bool
+refuses s = s.refused || list_any (is_past s.traps s.stores) s.points
+
+-- the end of a trap is refused where a refusal stands, or a point of this trap has not come before
+abbrev pub refuses_leave : PlantState → Bool
+refuses_leave s = s.refused || list_any (is_in s.traps) s.points
+
+-- a refusal stands from now on, and nothing else changes
+abbrev pub refusal : PlantState → PlantState
+refusal s = record s { refused = true }
+
+-- a store is counted
+abbrev pub counted : PlantState → PlantState
+counted s = record s { stores = risen s.stores; all_stores = risen_far s.all_stores }
+
+-- what a kernel knows of the machine: nothing is typed yet
+abbrev pub now_of : PlantState → Now
+now_of s = record {
+  trap = if s.in_trap then s.traps else risen s.traps;
+  user_frames = s.shape.user_frames;
+  sectors = s.shape.sectors;
+  arrived = 0 ∷ 0 ∷ [];
+  typed = 0 ∷ 0 ∷ [];
+}
 
 -- the terminal with a number below 2
 abbrev pub tty_of : PlantState → (tty : ℕ) → Terminal
@@ -74,24 +137,28 @@ tty_of s tty = if tty == 0 then s.tty0 else s.tty1
 abbrev pub put_on : Terminal → (byte : ℕ) → Terminal
 put_on t byte = record t { tape = t.tape ++ byte ∷ []; display = drawn t.display byte }
 
--- the plant with a byte put on a terminal
+-- the plant with a byte put on a terminal, which is a store
 abbrev pub with_put : PlantState → (tty byte : ℕ) → PlantState
-with_put s tty byte = if tty == 0 then record s { tty0 = put_on s.tty0 byte } else record s { tty1 = put_on s.tty1 byte }
+with_put s tty byte = if tty == 0 then record (counted s) { tty0 = put_on s.tty0 byte } else record (counted s) { tty1 = put_on s.tty1 byte }
 
--- a trap begins: it is counted, with a step unless it is the closing one
+-- a trap begins, with no store made in it: it is counted, with a step unless it is the closing one
 abbrev pub entered : PlantState → Came → PlantState
-entered s came.Closing = record s { in_user = false; traps = risen s.traps }
-entered s came.Kernel = record s { in_user = false; traps = risen s.traps; steps = risen s.steps }
-entered s came.User = record s { in_user = false; traps = risen s.traps; steps = risen s.steps }
-entered s came.Call = record s { in_user = false; traps = risen s.traps; steps = risen s.steps }
+entered s came.Closing = record s { in_user = false; in_trap = true; traps = risen s.traps; stores = 0 }
+entered s came.Kernel = record s { in_user = false; in_trap = true; traps = risen s.traps; stores = 0; steps = risen s.steps }
+entered s came.User = record s { in_user = false; in_trap = true; traps = risen s.traps; stores = 0; steps = risen s.steps }
+entered s came.Call = record s { in_user = false; in_trap = true; traps = risen s.traps; stores = 0; steps = risen s.steps }
+
+-- the kernel's work for a trap ends
+abbrev pub left_trap : PlantState → PlantState
+left_trap s = record s { in_trap = false }
 
 -- control goes to a process: its bank is loaded, its page tables are in use, and a slice begins
 abbrev pub returned_to : PlantState → (pid : ℕ) → Bank → (root : ℕ) → PlantState
 returned_to s pid bank root = record s { bank = bank; in_user = true; user_pid = pid; satp = satp_of root; slice = 0 }
 
--- a word of memory is set
+-- a word of memory is set, which is a store
 abbrev pub with_stored : PlantState → (frame word value : ℕ) → PlantState
-with_stored s frame word value = record s { memory = with_word s.memory frame word value }
+with_stored s frame word value = record (counted s) { memory = with_word s.memory frame word value }
 
 -- an instruction of the process in user mode, which UserStep says came to this
 abbrev pub StepsAs : PlantState → PlantState → UserEnd → Stepped Seen → Type 0

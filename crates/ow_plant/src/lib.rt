@@ -1,16 +1,19 @@
 //! The machine that a kernel runs on: memory of frames, two terminals, a processor whose user mode sees
-//! memory through page tables, and counts of steps and traps. It has no disk yet, nothing is typed, and no
-//! panic comes.
+//! memory through page tables, counts of steps, traps and stores, and points at which stores are refused from then
+//! on. It has no disk yet, nothing is typed, and a refusal stands for good.
 #![tactic(auto)]
 
 mod displays;
 mod machine;
+mod points;
 mod terminals;
 mod user_memory;
 
 pub use displays::Display;
 pub use machine::Plant;
-pub use ow_base::{Bank, Came, Fault, KeyByte, PanicRecord, Panicked, Point, Regs, Shape};
+pub use ow_base::{
+    AreaId, Bank, Came, Fault, KeyByte, Now, PanicRecord, Panicked, Point, Regs, Shape,
+};
 
 /// How a turn in user mode ends: an instruction was made, the slice is over, or the instruction is a
 /// call or has faulted.

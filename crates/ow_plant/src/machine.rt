@@ -1,13 +1,17 @@
 //! The plant: processor, memory and terminals.
-ghost use Rattle.std.specs.Prelude.{◌≡◌, ℕ, ◌+◌, ◌*◌, ◌^◌, ◌<◌, ◌≤◌, ◌↔◌, true, false, [], None, length, IsNone, IsOk, IfSome, OnOk, OnErr};
+ghost use Rattle.std.specs.Prelude.{◌≡◌, ℕ, ◌+◌, ◌*◌, ◌^◌, ◌<◌, ◌≤◌, ◌↔◌, true, false, [], None, length, is_some, IsTrue, IsErr, IsNone, IfSome, OnOk, OnErr};
 ghost use Rattle.phys_memory.specs.Memory.{frame_count, words_of};
-ghost use Rattle.ow_plant.specs.State.{IsReady, TakesUserTurn, returned_to, entered, with_put, with_stored, tty_of};
+ghost use Rattle.ow_plant.specs.Points.{ArePoints, points_of};
+ghost use Rattle.ow_plant.specs.State.{IsReady, TakesUserTurn, returned_to, entered, left_trap, refuses, refuses_leave, refusal, counted, with_put, with_stored, tty_of, now_of};
 
 use crate::UserEnd;
 use crate::displays::Display;
+use crate::points::PanicPoints;
 use crate::terminals::Tty;
 use crate::user_memory::UserMemory;
-use ow_base::{Bank, Came, KeyByte, PanicRecord, Panicked, Point, Regs, Shape, WordSource};
+use ow_base::{
+    AreaId, Bank, Came, KeyByte, Now, PanicRecord, Panicked, Point, Regs, Shape, WordSource,
+};
 use phys_memory::Memory;
 use rv32_user::{StepEnd, step};
 use std::alloc::{AllocError, Global};
@@ -16,8 +20,11 @@ use std::marker::Model;
 /// MODE of the register satp that turns Sv32 on (RISC-V manual, volume II).
 const SV32: u32 = 1 << 31;
 
-/// The machine that a kernel runs on: memory, two terminals, the processor's registers, and counts of steps
-/// and traps.
+/// The machine that a kernel runs on: memory, two terminals, the processor's registers, and counts of steps,
+/// traps and stores.
+///
+/// A store of a kernel is one word of memory or one byte on a terminal. A machine may be armed with points, at each of
+/// which a store is refused: from then on every store is refused.
 ///
 /// Memory is frames of 1,024 words: the boot frame, and then two halves, each with 64 frames of area, 64
 /// of cache and as many of pages as the shape says. A plant is made empty by `new` and gets its memory by
@@ -35,11 +42,17 @@ pub struct Plant {
     tty1: Tty,
     steps: u32,
     traps: u32,
+    points: PanicPoints,
+    stores: u32,
+    all_stores: u64,
+    refused: bool,
+    in_trap: bool,
+    live: AreaId,
     history: Vec<PanicRecord>,
 }
 
 impl Model for Plant {
-    ghost use Rattle.ow_plant.specs.State.{PlantState};
+    ghost use Rattle.ow_plant.specs.State.{PlantState, HasFramesArmed};
 
     ghost Value = { PlantState };
 
@@ -56,8 +69,16 @@ impl Model for Plant {
       tty1 = p.tty1;
       steps = p.steps;
       traps = p.traps;
+      points = p.points;
+      stores = p.stores;
+      all_stores = p.all_stores;
+      refused = p.refused;
+      in_trap = p.in_trap;
+      live = p.live;
       history = p.history.items;
     } };
+
+    ghost invariant = { λ p. HasFramesArmed p.armed p.shape p.seen.memory };
 }
 
 impl Plant {
@@ -65,6 +86,7 @@ impl Plant {
     pub fn new(alloc: Global) -> Plant
         ensures idle { result.armed ≡ false }
         ensures no_frame { frame_count result.memory ≡ 0 }
+        ensures points { result.points ≡ [] }
         ensures history { result.history ≡ [] }
     {
         let shape = Shape {
@@ -92,13 +114,19 @@ impl Plant {
             tty1: Tty::new(alloc),
             steps: 0,
             traps: 0,
+            points: PanicPoints::none(alloc),
+            stores: 0,
+            all_stores: 0,
+            refused: false,
+            in_trap: false,
+            live: AreaId::A,
             history: Vec::new(alloc),
         }
     }
 
     /// Makes memory with `user_frames` frames for pages in each half, all zero, and two terminals with room
-    /// for 16 bytes a step of the budget. Nothing is typed and no panic is armed yet. For want of memory
-    /// nothing changes.
+    /// for 16 bytes a step of the budget. Nothing is typed yet. The first store that a point refuses in its trap is
+    /// the one behind so many as it says. For want of memory nothing changes.
     pub fn arm(
         &mut self,
         alloc: Global,
@@ -110,18 +138,20 @@ impl Plant {
         requires idle { self.old.armed ≡ false }
         requires no_typed0 { typed0.now ≡ [] }
         requires no_typed1 { typed1.now ≡ [] }
-        requires no_points { points.now ≡ [] }
+        requires points { ArePoints points.now }
         requires frames { shape.user_frames ≤ 384 }
         requires some_quantum { 1 ≤ shape.quantum }
         requires quantum { shape.quantum ≤ 10000 }
         requires budget { shape.budget ≤ 2000000 }
         ensures ok { OnOk result (IsReady shape self.new) }
+        ensures points { OnOk result (self.new.points ≡ points_of points.now) }
         ensures err { OnErr result (self.new ≡ self.old) }
     {
         let room = 16 * shape.budget as usize;
         let memory = Memory::new(alloc, shape.user_frames)?;
         let tty0 = Tty::with_room(alloc, room)?;
         let tty1 = Tty::with_room(alloc, room)?;
+        let points = PanicPoints::of(alloc, points)?;
         self.armed = true;
         self.shape = shape;
         self.seen.memory = memory;
@@ -130,6 +160,12 @@ impl Plant {
         self.tty1 = tty1;
         self.steps = 0;
         self.traps = 0;
+        self.points = points;
+        self.stores = 0;
+        self.all_stores = 0;
+        self.refused = false;
+        self.in_trap = false;
+        self.live = AreaId::A;
         self.history = Vec::new(alloc);
         Ok(())
     }
@@ -148,16 +184,33 @@ impl Plant {
         }
     }
 
-    /// Sets the word of a frame at a place below 1,024. The frame must be there. No panic is armed yet, so it
-    /// always succeeds.
+    /// Sets the word of a frame at a place below 1,024. The frame must be there. `Panicked` comes exactly where a
+    /// refusal stands or a point of this trap has come; then no word changes, and the refusal stands.
     pub fn store(&mut self, frame: u32, word: u32, value: u32) -> Result<(), Panicked>
         requires armed { self.old.armed ≡ true }
         requires word { word < 1024 }
         requires frame { frame < frame_count self.old.memory }
-        ensures ok { IsOk result }
-        ensures stored { self.new ≡ with_stored self.old frame word value }
+        ensures exact { IsTrue (refuses self.old) ↔ IsErr result }
+        ensures ok { OnOk result (self.new ≡ with_stored self.old frame word value) }
+        ensures err { OnErr result (self.new ≡ refusal self.old) }
     {
+        self.count_store()?;
         self.seen.memory.store(frame, word, value);
+        Ok(())
+    }
+
+    /// Counts the store that is made next, or refuses it.
+    fn count_store(&mut self) -> Result<(), Panicked>
+        ensures exact { IsTrue (refuses self.old) ↔ IsErr result }
+        ensures ok { OnOk result (self.new ≡ counted self.old) }
+        ensures err { OnErr result (self.new ≡ refusal self.old) }
+    {
+        if self.refused || self.points.is_past(self.traps, self.stores) {
+            self.refused = true;
+            return Err(Panicked);
+        }
+        self.stores = self.stores.saturating_add(1);
+        self.all_stores = self.all_stores.saturating_add(1);
         Ok(())
     }
 
@@ -222,6 +275,62 @@ impl Plant {
         self.traps
     }
 
+    /// The stores made in the trap that was begun last, and before the first at boot. The count stops at its last
+    /// value.
+    pub fn stores_made(&self) -> u32
+        requires armed { self.now.armed ≡ true }
+        ensures { result ≡ self.now.stores }
+    {
+        self.stores
+    }
+
+    /// The stores made in all. The count stops at its last value.
+    pub fn all_stores(&self) -> u64
+        requires armed { self.now.armed ≡ true }
+        ensures { result ≡ self.now.all_stores }
+    {
+        self.all_stores
+    }
+
+    /// The area of the kernel that runs.
+    pub fn live(&self) -> AreaId
+        requires armed { self.now.armed ≡ true }
+        ensures { result ≡ self.now.live }
+    {
+        self.live
+    }
+
+    /// What a kernel knows of the machine now: the number of the trap that runs, and else of the coming one, at most
+    /// the last value of the count; how many frames for pages and how many sectors there are. Nothing is typed yet.
+    pub fn now(&self) -> Now
+        requires armed { self.now.armed ≡ true }
+        ensures now { result ≡ now_of self.now }
+        ensures fits { result.user_frames ≤ 384 }
+    {
+        let trap = if self.in_trap {
+            self.traps
+        } else {
+            self.traps.saturating_add(1)
+        };
+        Now {
+            trap,
+            user_frames: self.shape.user_frames,
+            sectors: self.shape.sectors,
+            arrived: [0, 0],
+            typed: [0, 0],
+        }
+    }
+
+    /// What holds of every plant: one that has a frame is armed, and none has more than 384 frames for pages in a
+    /// half. The call does nothing; contracts above cite it.
+    #[tactic(auto, unfolding(phys_memory::specs::Memory::words_of))]
+    pub fn has_frames_armed(&self)
+        ensures armed { (frame : ℕ) → (word : ℕ) → is_some (words_of self.now.memory frame word) ≡ true → self.now.armed ≡ true }
+        ensures few_frames { self.now.shape.user_frames ≤ 384 }
+    {
+        let _ = &self.armed;
+    }
+
     /// A turn of the process in user mode. After `quantum` instructions its slice is over, and nothing is
     /// done; else one instruction is made, on memory as its page tables show it. At a call and at a fault nothing changes.
     pub fn user_step(&mut self) -> UserEnd
@@ -244,36 +353,48 @@ impl Plant {
         }
     }
 
-    /// Begins a trap, which counts a step unless it is the closing one.
+    /// Begins the next trap, in which no store is made yet. It counts a step unless it is the closing one.
     pub fn enter(&mut self, came: Came, pid: u32)
         requires armed { self.old.armed ≡ true }
         ensures { self.new ≡ entered self.old came }
     {
         self.in_user = false;
+        self.in_trap = true;
         self.traps = self.traps.saturating_add(1);
+        self.stores = 0;
         match came {
             Came::Closing => {}
             Came::Kernel | Came::User | Came::Call => self.steps = self.steps.saturating_add(1),
         }
     }
 
-    /// Ends the kernel's work for a trap. No panic is armed yet, so it always succeeds.
+    /// Ends the kernel's work for a trap. `Panicked` comes exactly where a refusal stands or a point of this trap has
+    /// not come before; then the trap goes on, and the refusal stands. It is no store.
     pub fn leave(&mut self) -> Result<(), Panicked>
         requires armed { self.old.armed ≡ true }
-        ensures ok { IsOk result }
-        ensures same { self.new ≡ self.old }
+        ensures exact { IsTrue (refuses_leave self.old) ↔ IsErr result }
+        ensures ok { OnOk result (self.new ≡ left_trap self.old) }
+        ensures err { OnErr result (self.new ≡ refusal self.old) }
     {
+        if self.refused || self.points.has(self.traps) {
+            self.refused = true;
+            return Err(Panicked);
+        }
+        self.in_trap = false;
         Ok(())
     }
 
-    /// Writes a byte on a terminal, 0 or 1, whose tape must have room.
+    /// Writes a byte on a terminal, 0 or 1, whose tape must have room. It is a store, and `Panicked` comes as from
+    /// `store`; then no byte is written.
     pub fn put(&mut self, tty: u32, byte: u8) -> Result<(), Panicked>
         requires armed { self.old.armed ≡ true }
         requires which { tty < 2 }
         requires room { length (tty_of self.old tty).tape < (tty_of self.old tty).room }
-        ensures ok { IsOk result }
-        ensures put { self.new ≡ with_put self.old tty byte }
+        ensures exact { IsTrue (refuses self.old) ↔ IsErr result }
+        ensures ok { OnOk result (self.new ≡ with_put self.old tty byte) }
+        ensures err { OnErr result (self.new ≡ refusal self.old) }
     {
+        self.count_store()?;
         if tty == 0 {
             self.tty0.put(byte);
         } else {

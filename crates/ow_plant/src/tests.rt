@@ -1,9 +1,10 @@
-ghost use Rattle.std.specs.Prelude.{◌≡◌, ◌<◌, true, IfOk};
+ghost use Rattle.std.specs.Prelude.{◌≡◌, ◌≤◌, ◌<◌, true, [], IfOk};
 
 use crate::UserEnd;
 use crate::displays::Display;
 use crate::machine::Plant;
-use ow_base::{Bank, Came, Fault, Regs, Shape, WordSource};
+use arrayvec::ArrayVec;
+use ow_base::{AreaId, Bank, Came, Fault, Now, Point, Regs, Shape, WordSource};
 use std::alloc::{AllocError, Global};
 use std::test::Fail;
 
@@ -431,5 +432,174 @@ fn counts_turns(rt: HostRuntime) -> Result<(), Fail> {
     plant.fence();
     assert_eq!(rt; (plant.steps(), plant.traps()), (2, 2));
     assert!(rt; plant.leave().is_ok());
+    Ok(())
+}
+
+/// A panic at this store of this trap.
+fn point(trap: u32, store: u32) -> Point
+    ensures trap { result.trap ≡ trap }
+    ensures damages { result.damages.items ≡ [] }
+    ensures agains { result.agains.items ≡ [] }
+{
+    Point {
+        trap,
+        store,
+        damages: ArrayVec::new(),
+        agains: ArrayVec::new(),
+    }
+}
+
+/// A machine that is armed with a panic in a trap, and one in the trap behind it at its first store.
+fn with_points(alloc: Global, trap: u32, store: u32) -> Result<Plant, AllocError>
+    requires first { 1 ≤ trap }
+    requires last { trap < 100 }
+    ensures { IfOk result (λ plant. plant.armed ≡ true) }
+{
+    let mut plant = Plant::new(alloc);
+    let points = [point(trap, store), point(trap + 1, 0)];
+    plant.arm(alloc, SHAPE, &[], &[], &points)?;
+    Ok(plant)
+}
+
+/// A trap that makes so many stores, in the first words of the boot frame; whether none of it was refused.
+fn serve(plant: &mut Plant, stores: u32) -> bool
+    requires { plant.old.armed ≡ true }
+    ensures { plant.new.armed ≡ true }
+{
+    plant.enter(Came::Kernel, 1);
+    for word in 0..stores {
+        if !set(plant, 0, word % 1024, 7) {
+            return false;
+        }
+    }
+    plant.leave().is_ok()
+}
+
+/// A point, what two traps with 3 stores and with 2 come to, the trap that was begun last, how many stores were made in
+/// it, and how many in all.
+struct Stopped {
+    point: (u32, u32),
+    served: (bool, bool),
+    trap: u32,
+    made: u32,
+    all: u64,
+}
+
+const STOPPED: [Stopped; 10] = [
+    Stopped {
+        point: (1, 0),
+        served: (false, false),
+        trap: 1,
+        made: 0,
+        all: 0,
+    },
+    Stopped {
+        point: (1, 1),
+        served: (false, false),
+        trap: 1,
+        made: 1,
+        all: 1,
+    },
+    Stopped {
+        point: (1, 2),
+        served: (false, false),
+        trap: 1,
+        made: 2,
+        all: 2,
+    },
+    Stopped {
+        point: (1, 3),
+        served: (false, false),
+        trap: 1,
+        made: 3,
+        all: 3,
+    },
+    Stopped {
+        point: (1, 0xffff_ffff),
+        served: (false, false),
+        trap: 1,
+        made: 3,
+        all: 3,
+    },
+    Stopped {
+        point: (2, 0),
+        served: (true, false),
+        trap: 2,
+        made: 0,
+        all: 3,
+    },
+    Stopped {
+        point: (2, 1),
+        served: (true, false),
+        trap: 2,
+        made: 1,
+        all: 4,
+    },
+    Stopped {
+        point: (2, 2),
+        served: (true, false),
+        trap: 2,
+        made: 2,
+        all: 5,
+    },
+    Stopped {
+        point: (2, 3),
+        served: (true, false),
+        trap: 2,
+        made: 2,
+        all: 5,
+    },
+    Stopped {
+        point: (3, 0),
+        served: (true, true),
+        trap: 2,
+        made: 2,
+        all: 5,
+    },
+];
+
+#[test]
+fn points_refuse(rt: HostRuntime) -> Result<(), Fail> {
+    for case in &STOPPED {
+        assert!(rt; 1 <= case.point.0 && case.point.0 < 100);
+        let mut plant = with_points(rt.alloc(), case.point.0, case.point.1)?;
+        let first = serve(&mut plant, 3);
+        let second = first && serve(&mut plant, 2);
+        assert_eq!(rt; (first, second), case.served);
+        assert_eq!(rt; plant.traps(), case.trap);
+        assert_eq!(rt; (plant.stores_made(), plant.all_stores()), (case.made, case.all));
+        // one store more is made exactly where none was refused, and nothing follows a refusal
+        let goes_on = set(&mut plant, 1, 9, 8);
+        assert_eq!(rt; goes_on, second);
+        assert_eq!(rt; WordSource::load(&plant, 1, 9) == Some(8), second);
+        assert_eq!(rt; plant.put(1, b'x').is_ok(), second);
+        assert_eq!(rt; plant.tape(1).is_empty(), !second);
+        assert_eq!(rt; plant.leave().is_ok(), second);
+    }
+    Ok(())
+}
+
+#[test]
+fn tells_the_trap(rt: HostRuntime) -> Result<(), Fail> {
+    let mut plant = with_points(rt.alloc(), 2, 7)?;
+    let first = Now {
+        trap: 1,
+        user_frames: 16,
+        sectors: 1,
+        arrived: [0, 0],
+        typed: [0, 0],
+    };
+    assert_eq!(rt; plant.now(), first);
+    assert!(rt; set(&mut plant, 0, 0, 1) && plant.put(0, b'a').is_ok());
+    assert_eq!(rt; (plant.stores_made(), plant.all_stores()), (2, 2));
+    plant.enter(Came::User, 1);
+    assert_eq!(rt; (plant.now(), plant.stores_made()), (first, 0));
+    assert!(rt; plant.leave().is_ok());
+    assert_eq!(rt; plant.now(), Now { trap: 2, ..first });
+    assert!(rt; !serve(&mut plant, 7));
+    // the trap that was not left goes on
+    assert_eq!(rt; plant.now(), Now { trap: 2, ..first });
+    assert_eq!(rt; (plant.stores_made(), plant.all_stores()), (7, 9));
+    assert_eq!(rt; plant.live(), AreaId::A);
     Ok(())
 }

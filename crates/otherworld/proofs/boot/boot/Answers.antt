@@ -9,7 +9,7 @@ use Rattle.phys_memory.specs.Memory.{MemoryParts, IsSized, words_of, zeroed}
 use Rattle.phys_memory.proofs.Words.{IsSized-zeroed}
 use Rattle.ow_plant.specs.State.{PlantState, silent_terminal}
 use Rattle.otherworld.specs.State.{pages_at, HasPages}
-use Rattle.otherworld.specs.Boot.{with_program, with_tables}
+use Rattle.otherworld.specs.Boot.{HasStored, with_program, with_tables}
 use Rattle.otherworld.proofs.Tables.{pages_at-built, HasPages-built}
 use Rattle.otherworld.proofs.Starting.{start_of-booted, IsSound-booted}
 use Rattle.otherworld.proofs.boot.boot.Goals as goal
@@ -41,8 +41,8 @@ booted c =
           ∙ ap (λ (w : WordMap). with_tables w (page_count p.code) (page_count p.values)) loaded;
     }
 
--- the plant is as it was, but for memory
-kept : (c : goal.After-set) → c.fence.new.self ≡ record c.args.plant.now { memory = c.fence.new.self.memory }
+-- the plant is as it was, but for memory and its counts of stores
+kept : (c : goal.After-set) → HasStored c.args.plant.now c.fence.new.self
 kept c = grind (arith, common_steps, c.fence.ensures, c.build_tables.ensures.rest, c.store_program.ensures.rest)
 
 pub returns-clause-started : goal.returns-clause-started
@@ -73,6 +73,7 @@ returns-clause-sound c =
     HasPages-built s.shape.user_frames p n.memory (omega (arith, c.requires.short_code)) (omega (arith, c.requires.short_values)) (omega (arith, c.requires.frames)) is.sized is.built in
     IsSound-booted n c.args.start.now.tty (record { pc = 65536; regs = c.set.new.self }) c.requires.tty (omega (arith, budget, c.requires.budget))
     (ap (λ (t : PlantState). t.armed) (kept c) ∙ c.requires.ready.armed)
+    (ap (λ (t : PlantState). t.points) (kept c) ∙ c.requires.never.0, ap (λ (t : PlantState). t.refused) (kept c) ∙ c.requires.never.1)
     (ap (λ (t : PlantState). t.in_user) (kept c) ∙ c.requires.ready.in_kernel)
     (subst (λ (h : Shape). HasPages h.user_frames n.memory) (sym shape) pages)
     (ap (λ (t : PlantState). t.tty0) (kept c) ∙ c.requires.ready.tty0 ∙ ap (λ (k : ℕ). silent_terminal (16 * k)) (sym budget))

@@ -5,7 +5,7 @@ use Rattle.ow_plant.specs.State.{PlantState, entered}
 use Rattle.otherworld.specs.declared.kernel_traps.Kernel.{Kernel}
 use Rattle.otherworld.specs.declared.kernel_traps.Life.TheVariants.{Outside}
 use Rattle.otherworld.specs.State.{unix_of}
-use Rattle.otherworld.proofs.Turns.{closes_user, closes_kernel}
+use Rattle.otherworld.proofs.Turns.{closes_user, closes_kernel, unix_of-left}
 use Rattle.otherworld.proofs.Sounds.{by_outside}
 use Rattle.otherworld.proofs.kernel_traps.shutdown.Goals as goal
 use Rattle.otherworld.proofs.kernel_traps.shutdown.Goals.{then-in_user, else-in_user}
@@ -14,8 +14,8 @@ pub returns-clause-closing : goal.returns-clause-closing
 returns-clause-closing c =
     let s = c.args.plant.now in
     let few_traps : s.traps < 2 ^ 32 - 1 = omega (arith, c.requires.small, c.requires.budget, c.requires.few_traps) in
-    rw c.leave.ensures.same
-    (elim c.if-in_user.branch [
+    rw c.end_trap.ensures.left
+    (unix_of-left c.if-in_user.plant c.if-in_user.kernel ∙ elim c.if-in_user.branch [
       | then-in_user w ↦
           let inside : s.in_user ≡ true = sym c.in_user.ensures ∙ w.if-in_user.true in
           let plant : c.if-in_user.plant ≡ entered s came.Closing = w.plant-is ∙ w.enter.ensures in
