@@ -1,6 +1,7 @@
 -- Lemmas on records of any kind, on lists that are laid one behind the other, on bytes in words, on how the records
 -- with lists are written, and on the ranges of an intent.
 pub mod Records
+pub mod Reading
 pub mod Parts
 pub mod Processes
 pub mod Laying

@@ -1,10 +1,10 @@
 -- Bytes packed into words are packed in one way.
-use Rattle.std.proofs.Common.{◌≡◌, ℕ, ◌+◌, ◌*◌, ◌/◌, ◌%◌, ◌^◌, ◌<◌, ◌∙◌, sym, arith, List, length, get_or, take, drop}
+use Rattle.std.proofs.Common.{◌≡◌, ℕ, zero, suc, ◌+◌, ◌*◌, ◌/◌, ◌%◌, ◌^◌, ◌<◌, ◌∙◌, sym, refl, ap, arith, List, [], ◌∷◌, length, get_or, take, drop}
 use Rattle.std.proofs.lemmas.Grind.{common_steps}
 use Rattle.std.proofs.lemmas.List.{ext_get_or}
 use Rattle.ow_base.specs.Words.{byte_of_words}
 use Rattle.ow_base.specs.Seals.{AreWords}
-use Rattle.record_layouts.specs.Packing.{ArePacked}
+use Rattle.record_layouts.specs.Packing.{ArePacked, unpacked}
 
 -- words hold one list of bytes
 pub one_reading : {words some others : List ℕ} → ArePacked words some → ArePacked words others → some ≡ others
@@ -41,3 +41,27 @@ pub one_packing : {some others bytes : List ℕ} → ArePacked some bytes → Ar
 one_packing {some = some} {others = others} {bytes = bytes} is is_too fits fits_too =
     ext_get_or 0 some others (omega (arith, is.filled, is_too.filled))
     (λ k less. same_word some others bytes is is_too k less (fits k) (fits_too k))
+
+-- what is unpacked from words are the bytes in them
+unpacked_length : (words : List ℕ) → length (unpacked words) ≡ 4 * length words
+unfolding unpacked
+unpacked_length [] = refl
+unpacked_length (word ∷ words) = omega (arith, unpacked_length words)
+
+later_byte : (word : ℕ) (words : List ℕ) (i : ℕ) → byte_of_words (word ∷ words) (suc (suc (suc (suc i)))) ≡ byte_of_words words i
+later_byte word words i =
+    let quotient : suc (suc (suc (suc i))) / 4 ≡ suc (i / 4) = omega arith in
+    let rest : suc (suc (suc (suc i))) % 4 ≡ i % 4 = omega arith in
+    rw (quotient, rest) refl
+
+unpacked_byte : (words : List ℕ) (j : ℕ) → get_or (unpacked words) j 0 ≡ byte_of_words words j
+unfolding unpacked
+unpacked_byte [] j = omega arith
+unpacked_byte (word ∷ words) zero = omega arith
+unpacked_byte (word ∷ words) (suc zero) = omega arith
+unpacked_byte (word ∷ words) (suc (suc zero)) = omega arith
+unpacked_byte (word ∷ words) (suc (suc (suc zero))) = omega arith
+unpacked_byte (word ∷ words) (suc (suc (suc (suc i)))) = unpacked_byte words i ∙ sym (later_byte word words i)
+
+pub are_unpacked : (words : List ℕ) → ArePacked words (unpacked words)
+are_unpacked words = record { filled = unpacked_length words; each = λ j less. unpacked_byte words j }

@@ -1,6 +1,7 @@
 -- Lists of ranges, as words of an area spell them.
 use Rattle.std.proofs.Common.{inl, inr, ◌≡◌, ℕ, zero, suc, ◌+◌, ◌-◌, ◌*◌, ◌<◌, ◌≤◌, true, false, if◌then◌else◌, List, [], ◌∷◌, length, take, drop, slice_index, Option, Some, None, is_some, refl, sym, ap, ◌∙◌, arith, length-drop}
 use Rattle.std.proofs.lemmas.Grind.{common_steps}
+use Rattle.std.proofs.lemmas.List.{ext_get_or}
 use Rattle.std.proofs.lemmas.Bool.{cases_lt, cases_Bool, false≢true}
 use Rattle.std.proofs.lemmas.Bool.Decides.{nat_tests}
 use Rattle.ow_base.specs.Seals.{seal_from}
@@ -34,6 +35,13 @@ nth-words_from area first (suc count) zero there = grind (arith, common_steps)
 nth-words_from area first (suc count) (suc i) there =
     let e : first + 1 + i ≡ first + suc i = omega arith in
     nth-words_from area (first + 1) count i (omega arith) ∙ ap area e
+
+-- words of which each is the area's are those words of the area
+pub words_from-each : (area : Area) (first : ℕ) (words : List ℕ) (count : ℕ) → length words ≡ count
+    → ((j : ℕ) → j < count → slice_index words j ≡ area (first + j)) → words ≡ words_from area first count
+words_from-each area first words count long each =
+    ext_get_or 0 words (words_from area first count) (long ∙ sym (length-words_from area first count))
+    (λ j there. each j (omega arith) ∙ sym (nth-words_from area first count j (omega arith)))
 
 -- how many ranges may be read does not count where it is no less than the words
 ranges_of-more : (n m : ℕ) (words : List ℕ) → length words ≤ n → length words ≤ m → ranges_of n words ≡ ranges_of m words

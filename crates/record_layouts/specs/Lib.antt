@@ -25,3 +25,6 @@ pub mod Pages
 pub mod Decode
 pub mod Sound
 pub mod Reading
+pub mod Tests
+pub mod Fitting
+pub mod Values

@@ -1,5 +1,5 @@
 -- The records of an area, read from its words.
-use Rattle.std.specs.Prelude.{ℕ, ◌+◌, ◌*◌, Bool, true, false, nat_lt, ◌&&◌, if◌then◌else◌, List, None}
+use Rattle.std.specs.Prelude.{ℕ, ◌+◌, ◌*◌, ◌^◌, ◌≤◌, Bool, true, false, nat_lt, ◌&&◌, if◌then◌else◌, List, None}
 use Rattle.ow_base.specs.Sv32.{WordMap}
 use Rattle.record_layouts.specs.declared.memory_map.MemoryMap.{MemoryMap}
 use Rattle.record_layouts.specs.declared.intent.Gate.{Gate}
@@ -19,6 +19,14 @@ use Rattle.record_layouts.specs.Cache.{cache_in}
 use Rattle.record_layouts.specs.Term.{term_in}
 use Rattle.record_layouts.specs.Row.{row_in}
 use Rattle.record_layouts.specs.Exit.{exit_in}
+
+-- the frames of the area, of the cache and of users have numbers of 32 bits, and users have no more than owners can be
+-- named of
+pub record FitsMap (map : MemoryMap) : Type 0 where
+  pub area : map.area_base + 64 ≤ 2 ^ 32
+  pub cache : map.cache_base + 64 ≤ 2 ^ 32
+  pub pool : map.pool_base + 384 ≤ 2 ^ 32
+  pub user_frames : map.user_frames ≤ 384
 
 -- the words of a record of an area
 abbrev pub words_of : Area → RecordId → List ℕ

@@ -2,7 +2,7 @@
 
 ghost use Rattle.std.specs.Prelude.{◌≡◌, ◌≢◌, ℕ, ◌^◌, ◌<◌, ◌↔◌, List, slice_index, slice_set, IsTrue, IfSome, IfNone};
 ghost use Rattle.record_layouts.specs.declared.cache.CacheRec.{CacheRec};
-ghost use Rattle.record_layouts.specs.Cache.{IsCache, FitsCache};
+ghost use Rattle.record_layouts.specs.Cache.{IsCache, FitsCache, cache_in};
 
 use crate::spelling::are_zero;
 use ow_base::{is_sealed, put_seal};
@@ -50,6 +50,7 @@ impl CacheRec {
     pub fn from_words(words: &[u32; 8]) -> Option<CacheRec>
         ensures found { IfSome result (λ entry. IsCache words.now entry) }
         ensures none { IfNone result ((entry : CacheRec) → IsCache words.now entry → ⊥) }
+        ensures read { result ≡ cache_in words.now }
     {
         let entry = CacheRec {
             state: words[1],

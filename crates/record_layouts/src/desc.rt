@@ -2,7 +2,7 @@
 
 ghost use Rattle.std.specs.Prelude.{◌≡◌, ◌≢◌, ℕ, ◌^◌, ◌<◌, ◌↔◌, List, slice_index, slice_set, IsTrue, IfSome, IfNone};
 ghost use Rattle.record_layouts.specs.declared.desc.DescRec.{DescRec};
-ghost use Rattle.record_layouts.specs.Desc.{IsDesc, FitsDesc, IsMode};
+ghost use Rattle.record_layouts.specs.Desc.{IsDesc, FitsDesc, IsMode, desc_in};
 
 use crate::spelling::are_zero;
 use ow_base::{is_sealed, put_seal};
@@ -61,6 +61,7 @@ impl DescRec {
     pub fn from_words(words: &[u32; 16]) -> Option<DescRec>
         ensures found { IfSome result (λ desc. IsDesc words.now desc) }
         ensures none { IfNone result ((desc : DescRec) → IsDesc words.now desc → ⊥) }
+        ensures read { result ≡ desc_in words.now }
     {
         let desc = DescRec {
             object: words[1],

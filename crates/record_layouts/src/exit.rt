@@ -2,7 +2,7 @@
 
 ghost use Rattle.std.specs.Prelude.{◌≡◌, ◌≢◌, ℕ, ◌^◌, ◌<◌, ◌↔◌, List, slice_index, slice_set, IsTrue, IfSome, IfNone};
 ghost use Rattle.record_layouts.specs.declared.exit.ExitRec.{ExitRec};
-ghost use Rattle.record_layouts.specs.Exit.{IsExit, FitsExit};
+ghost use Rattle.record_layouts.specs.Exit.{IsExit, FitsExit, exit_in};
 
 use crate::spelling::is_status;
 use ow_base::{is_sealed, put_seal};
@@ -49,6 +49,7 @@ impl ExitRec {
     pub fn from_words(words: &[u32; 4]) -> Option<ExitRec>
         ensures found { IfSome result (λ exit. IsExit words.now exit) }
         ensures none { IfNone result ((exit : ExitRec) → IsExit words.now exit → ⊥) }
+        ensures read { result ≡ exit_in words.now }
     {
         let exit = ExitRec {
             state: words[1],

@@ -4,7 +4,7 @@ ghost use Rattle.std.specs.Prelude.{◌≡◌, ◌≢◌, ℕ, ◌^◌, ◌<◌,
 ghost use Rattle.record_layouts.specs.declared.file.FileRec.{FileRec};
 ghost use Rattle.ow_base.specs.World.{IsName};
 ghost use Rattle.record_layouts.specs.Spelling.{AreZero};
-ghost use Rattle.record_layouts.specs.File.{FitsState, FitsFile, IsFile};
+ghost use Rattle.record_layouts.specs.File.{FitsState, FitsFile, IsFile, file_in};
 
 use crate::packing::{pack, unpack};
 use crate::spelling::are_zero;
@@ -59,6 +59,7 @@ impl FileRec {
     pub fn from_words(words: &[u32; 96]) -> Option<FileRec>
         ensures found { IfSome result (λ file. IsFile words.now file) }
         ensures none { IfNone result ((file : FileRec) → IsFile words.now file → ⊥) }
+        ensures read { result ≡ file_in words.now }
     {
         if words[0] != KIND || !are_zero(words, 75, 95) || !is_sealed(words) {
             return None;

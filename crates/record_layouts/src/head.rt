@@ -2,7 +2,7 @@
 
 ghost use Rattle.std.specs.Prelude.{◌≡◌, ◌≢◌, ℕ, ◌^◌, ◌<◌, ◌↔◌, List, slice_index, slice_set, IsTrue, IfSome, IfNone};
 ghost use Rattle.record_layouts.specs.declared.head.HeadRec.{HeadRec};
-ghost use Rattle.record_layouts.specs.Head.{IsHead, FitsHead};
+ghost use Rattle.record_layouts.specs.Head.{IsHead, FitsHead, head_in};
 
 use crate::spelling::are_zero;
 use ow_base::{is_sealed, put_seal};
@@ -51,6 +51,7 @@ impl HeadRec {
     pub fn from_words(words: &[u32; 16]) -> Option<HeadRec>
         ensures found { IfSome result (λ head. IsHead words.now head) }
         ensures none { IfNone result ((head : HeadRec) → IsHead words.now head → ⊥) }
+        ensures read { result ≡ head_in words.now }
     {
         let head = HeadRec {
             layout: words[1],

@@ -3,8 +3,8 @@
 //! An intent changes words of several records at once. Its payload is a list of ranges: of each the frame and the place
 //! of its first word, how many words there are, and what they become. The gate tells how many words of payload there
 //! are; the block's last word is the seal of the gate and of these.
-ghost use Rattle.std.specs.Prelude.{◌≡◌, ℕ, ◌+◌, ◌-◌, ◌*◌, ◌^◌, ◌<◌, ◌≤◌, true, IfSome, IfNone, None, is_some};
-ghost use Rattle.record_layouts.specs.Overlay.{EndsOpen, HasArea, StandsFirst, area_at, gate_of, intent_seal, is_within, laid, lies_in, may_change, open_ranges, or_none, overlay, ranges_in, values_end, words_from};
+ghost use Rattle.std.specs.Prelude.{◌≡◌, ℕ, ◌+◌, ◌-◌, ◌*◌, ◌^◌, ◌<◌, ◌≤◌, true, IfSome, IfNone, None, is_some, length};
+ghost use Rattle.record_layouts.specs.Overlay.{EndsOpen, StandsFirst, area_at, gate_of, intent_seal, is_within, laid, lies_in, may_change, open_ranges, or_none, overlay, ranges_in, values_end, words_from};
 
 use crate::places::FRAME;
 use ow_base::{WordSource, seal};
@@ -56,11 +56,13 @@ pub enum Gate {
     Broken,
 }
 
-/// The words of a kernel's area, in the 64 frames from `base` on. Word w of frame f has the number 1,024 f + w.
+/// The words of a kernel's area, in the 64 frames from `base` on. Word w of frame f has the number 1,024 f + w. A word
+/// that memory does not have reads as 0.
 #[derive(Drop)]
 pub(crate) struct Area<'a, W> {
     pub(crate) source: &'a W,
     pub(crate) base: u32,
+    ghost room: { base + 64 ≤ 2 ^ 32 },
 }
 
 /// Words of an area that lie one behind the other, from the number `begin` on and before `end`.
@@ -112,8 +114,8 @@ impl Span {
 }
 
 impl<W: WordSource> Area<'_, W> {
+    /// The word of this number.
     pub(crate) fn word(&self, number: u32) -> u32
-        requires area { HasArea (W.words self.now.source.now) self.now.base }
         requires number { number < 65536 }
         ensures { result ≡ area_at (W.words self.now.source.now) self.now.base number }
     {
@@ -125,7 +127,6 @@ impl<W: WordSource> Area<'_, W> {
     /// What the intent block says.
     #[tactic(auto, unfolding(crate::specs::Overlay::open_ranges))]
     pub(crate) fn gate(&self) -> Gate
-        requires { HasArea (W.words self.now.source.now) self.now.base }
         ensures { result ≡ gate_of (area_at (W.words self.now.source.now) self.now.base) }
     {
         if self.word(GATE) == 0 {
@@ -138,13 +139,33 @@ impl<W: WordSource> Area<'_, W> {
     }
 
     /// The word of this number, with a valid open intent laid over it.
-    #[tactic(auto, unfolding(crate::specs::Overlay::overlay, crate::specs::Overlay::laid))]
     pub(crate) fn overlaid(&self, number: u32) -> u32
-        requires area { HasArea (W.words self.now.source.now) self.now.base }
-        requires number { number < 65536 }
+        requires { number < 65536 }
         ensures { result ≡ overlay (area_at (W.words self.now.source.now) self.now.base) number }
     {
-        match self.open_end() {
+        self.shown(self.open_end(), number)
+    }
+
+    /// Fills `words` with those from the number `first` on, with a valid open intent laid over them.
+    pub(crate) fn read(&self, first: u32, words: &mut [u32])
+        requires { first + length words.old ≤ 65536 }
+        ensures { words.new ≡ words_from (overlay (area_at (W.words self.now.source.now) self.now.base)) first (length words.old) }
+    {
+        let end = self.open_end();
+        for (k, word) in words.iter_mut().enumerate() {
+            *word = self.shown(end, first + k as u32);
+        }
+    }
+
+    // The word of this number, with the intent laid over it whose payload ends at `end`, or as it is if none is open.
+    #[tactic(auto, unfolding(crate::specs::Overlay::overlay, crate::specs::Overlay::laid))]
+    fn shown(&self, end: Option<u32>, number: u32) -> u32
+        requires number { number < 65536 }
+        requires open { IfSome end (EndsOpen (area_at (W.words self.now.source.now) self.now.base)) }
+        requires closed { IfNone end (open_ranges (area_at (W.words self.now.source.now) self.now.base) ≡ None) }
+        ensures { result ≡ overlay (area_at (W.words self.now.source.now) self.now.base) number }
+    {
+        match end {
             Some(end) => self.laid(end, number),
             None => self.word(number),
         }
@@ -153,7 +174,6 @@ impl<W: WordSource> Area<'_, W> {
     /// Where the payload of the open intent ends, if this is valid.
     #[tactic(auto, unfolding(crate::specs::Overlay::open_ranges))]
     pub(crate) fn open_end(&self) -> Option<u32>
-        requires { HasArea (W.words self.now.source.now) self.now.base }
         ensures found { IfSome result (EndsOpen (area_at (W.words self.now.source.now) self.now.base)) }
         ensures none { IfNone result (open_ranges (area_at (W.words self.now.source.now) self.now.base) ≡ None) }
     {
@@ -171,7 +191,6 @@ impl<W: WordSource> Area<'_, W> {
 
     // The seal that belongs to the words from the gate up to `end`.
     fn seal(&self, end: u32) -> u32
-        requires area { HasArea (W.words self.now.source.now) self.now.base }
         requires begin { 17 ≤ end }
         requires end { end ≤ 1023 }
         ensures { result ≡ intent_seal (area_at (W.words self.now.source.now) self.now.base) end }
@@ -185,7 +204,6 @@ impl<W: WordSource> Area<'_, W> {
 
     // Whether the payload up to `end` is a list of ranges.
     fn holds_ranges(&self, end: u32) -> bool
-        requires area { HasArea (W.words self.now.source.now) self.now.base }
         requires begin { 17 ≤ end }
         requires end { end ≤ 1023 }
         ensures { result ≡ is_some (ranges_in (words_from (area_at (W.words self.now.source.now) self.now.base) 17 (end - 17))) }
@@ -202,7 +220,6 @@ impl<W: WordSource> Area<'_, W> {
 
     // What the ranges of the payload up to `end` make of the word of this number.
     fn laid(&self, end: u32, number: u32) -> u32
-        requires area { HasArea (W.words self.now.source.now) self.now.base }
         requires begin { 17 ≤ end }
         requires end { end ≤ 1023 }
         requires number { number < 65536 }
@@ -222,7 +239,6 @@ impl<W: WordSource> Area<'_, W> {
 
     /// The change that the payload from `place` up to `end` begins with, if a range of words that may change stands there.
     pub(crate) fn change(&self, place: u32, end: u32) -> Option<Change>
-        requires area { HasArea (W.words self.now.source.now) self.now.base }
         requires place { place ≤ end }
         requires end { end ≤ 1023 }
         ensures found { IfSome result (StandsFirst (area_at (W.words self.now.source.now) self.now.base) place end) }

@@ -4,6 +4,7 @@
 //! Unix stand in `specs/`.
 #![tactic(auto)]
 
+mod area_view;
 mod cache;
 mod desc;
 mod exit;
@@ -24,6 +25,7 @@ mod term;
 mod view;
 mod writer;
 
+pub use area_view::AreaView;
 pub use cache::{CacheRec, cache_entries_are_spelled_once};
 pub use desc::{DescRec, descriptions_are_spelled_once};
 pub use exit::{ExitRec, exits_are_spelled_once};

@@ -2,7 +2,7 @@
 
 ghost use Rattle.std.specs.Prelude.{◌≡◌, ◌≢◌, ℕ, ◌+◌, ◌^◌, ◌<◌, ◌≤◌, ◌↔◌, List, length, take, drop, slice_index, slice_set, EachIndex, IsTrue, IfSome, IfNone};
 ghost use Rattle.record_layouts.specs.declared.proc.ProcRec.{ProcRec};
-ghost use Rattle.record_layouts.specs.Proc.{heap_start, IsBlankBank, FitsLive, IsOver, FitsFree, FitsEnded, FitsProc, IsBankAt, IsFront, IsProc};
+ghost use Rattle.record_layouts.specs.Proc.{heap_start, IsBlankBank, FitsLive, IsOver, FitsFree, FitsEnded, FitsProc, IsBankAt, IsFront, IsProc, proc_in};
 
 use crate::spelling::{are_zero, is_status};
 use ow_base::{Bank, Regs, is_sealed, put_seal};
@@ -253,6 +253,7 @@ impl ProcRec {
     pub fn from_words(words: &[u32; 128]) -> Option<ProcRec>
         ensures found { IfSome result (λ process. IsProc words.now process) }
         ensures none { IfNone result ((process : ProcRec) → IsProc words.now process → ⊥) }
+        ensures read { result ≡ proc_in words.now }
     {
         if words[0] != KIND || !are_zero(words, 117, 127) || !is_sealed(words) {
             return None;

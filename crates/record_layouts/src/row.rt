@@ -2,7 +2,7 @@
 
 ghost use Rattle.std.specs.Prelude.{◌≡◌, ◌≢◌, ℕ, ◌^◌, ◌<◌, List, slice_index, slice_set, IfSome, IfNone};
 ghost use Rattle.record_layouts.specs.declared.row.RowRec.{RowRec};
-ghost use Rattle.record_layouts.specs.Row.{FitsRow, IsRow};
+ghost use Rattle.record_layouts.specs.Row.{FitsRow, IsRow, row_in};
 
 use crate::packing::{pack, unpack};
 use ow_base::{is_sealed, put_seal};
@@ -39,6 +39,7 @@ impl RowRec {
     pub fn from_words(words: &[u32; 24]) -> Option<RowRec>
         ensures found { IfSome result (λ row. IsRow words.now row) }
         ensures none { IfNone result ((row : RowRec) → IsRow words.now row → ⊥) }
+        ensures read { result ≡ row_in words.now }
     {
         if words[0] != KIND || words[1] >= PLACES || words[22] != 0 || !is_sealed(words) {
             return None;

@@ -2,7 +2,7 @@
 
 ghost use Rattle.std.specs.Prelude.{◌≡◌, ◌≢◌, ℕ, ◌^◌, ◌<◌, ◌↔◌, List, slice_index, slice_set, IsTrue, IfSome, IfNone};
 ghost use Rattle.record_layouts.specs.declared.sig.SigRec.{SigRec};
-ghost use Rattle.record_layouts.specs.Sig.{FitsSig, IsSig};
+ghost use Rattle.record_layouts.specs.Sig.{FitsSig, IsSig, sig_in};
 
 use crate::spelling::are_zero;
 use ow_base::{is_sealed, put_seal};
@@ -40,6 +40,7 @@ impl SigRec {
     pub fn from_words(words: &[u32; 32]) -> Option<SigRec>
         ensures found { IfSome result (λ signals. IsSig words.now signals) }
         ensures none { IfNone result ((signals : SigRec) → IsSig words.now signals → ⊥) }
+        ensures read { result ≡ sig_in words.now }
     {
         if words[0] != KIND || !are_zero(words, 18, 31) || !is_sealed(words) {
             return None;

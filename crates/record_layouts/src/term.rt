@@ -2,7 +2,7 @@
 
 ghost use Rattle.std.specs.Prelude.{◌≡◌, ◌≢◌, ℕ, ◌^◌, ◌<◌, ◌↔◌, List, slice_index, slice_set, IsTrue, IfSome, IfNone};
 ghost use Rattle.record_layouts.specs.declared.term.TermRec.{TermRec};
-ghost use Rattle.record_layouts.specs.Term.{IsTerm, FitsTerm};
+ghost use Rattle.record_layouts.specs.Term.{IsTerm, FitsTerm, term_in};
 
 use crate::spelling::are_zero;
 use ow_base::{is_sealed, put_seal};
@@ -59,6 +59,7 @@ impl TermRec {
     pub fn from_words(words: &[u32; 16]) -> Option<TermRec>
         ensures found { IfSome result (λ term. IsTerm words.now term) }
         ensures none { IfNone result ((term : TermRec) → IsTerm words.now term → ⊥) }
+        ensures read { result ≡ term_in words.now }
     {
         let term = TermRec {
             tty: words[1],

@@ -1,7 +1,28 @@
+use Rattle.std.proofs.Common.{rules, sym}
+use Rattle.record_layouts.specs.File.{IsFile, file_in}
+use Rattle.record_layouts.specs.Tests.{reads_none}
+use Rattle.record_layouts.proofs.Reading.{file_is, file_read}
 use Rattle.record_layouts.proofs.Files.{unread}
 use Rattle.record_layouts.proofs.file.FileRec.from_words.Goals as goal
+
+pub returns-then-fits-clause-found : goal.returns-then-fits-clause-found
+returns-then-fits-clause-found c = search rules
+
+pub returns-then-fits-clause-read : goal.returns-then-fits-clause-read
+returns-then-fits-clause-read c = sym (file_read c.args.words.now _ (returns-then-fits-clause-found c))
+
+pub returns-then-words-ne-KIND-clause-none : goal.returns-then-words-ne-KIND-clause-none
+returns-then-words-ne-KIND-clause-none c = search rules
+
+pub returns-then-words-ne-KIND-clause-read : goal.returns-then-words-ne-KIND-clause-read
+returns-then-words-ne-KIND-clause-read c =
+    reads_none (IsFile c.args.words.now) (file_in c.args.words.now) (file_is c.args.words.now) (returns-then-words-ne-KIND-clause-none c)
 
 pub returns-else-fits-clause-none : goal.returns-else-fits-clause-none
 returns-else-fits-clause-none c =
     unread c.args.words.now c.unpack.new.bytes c.copy_from_slice.new.self c.fits.result c.unpack.ensures c.copy_from_slice.ensures.after
     c.fits.ensures.1 c.if-fits.false
+
+pub returns-else-fits-clause-read : goal.returns-else-fits-clause-read
+returns-else-fits-clause-read c =
+    reads_none (IsFile c.args.words.now) (file_in c.args.words.now) (file_is c.args.words.now) (returns-else-fits-clause-none c)

@@ -1,0 +1,18 @@
+use Rattle.std.proofs.Common.{rules, sym}
+use Rattle.record_layouts.specs.Head.{IsHead, head_in}
+use Rattle.record_layouts.specs.Tests.{reads_none}
+use Rattle.record_layouts.proofs.Reading.{head_is, head_read}
+use Rattle.record_layouts.proofs.head.HeadRec.from_words.Goals as goal
+
+pub returns-then-fits-clause-found : goal.returns-then-fits-clause-found
+returns-then-fits-clause-found c = search rules
+
+pub returns-then-fits-clause-read : goal.returns-then-fits-clause-read
+returns-then-fits-clause-read c = sym (head_read c.args.words.now _ (returns-then-fits-clause-found c))
+
+pub returns-else-words-eq-KIND-clause-none : goal.returns-else-words-eq-KIND-clause-none
+returns-else-words-eq-KIND-clause-none c = search rules
+
+pub returns-else-words-eq-KIND-clause-read : goal.returns-else-words-eq-KIND-clause-read
+returns-else-words-eq-KIND-clause-read c =
+    reads_none (IsHead c.args.words.now) (head_in c.args.words.now) (head_is c.args.words.now) (returns-else-words-eq-KIND-clause-none c)

@@ -1,0 +1,25 @@
+use Rattle.std.proofs.Common.{rules, sym}
+use Rattle.record_layouts.specs.Sig.{IsSig, sig_in}
+use Rattle.record_layouts.specs.Tests.{reads_none}
+use Rattle.record_layouts.proofs.Reading.{sig_is, sig_read}
+use Rattle.record_layouts.proofs.sig.SigRec.from_words.Goals as goal
+
+pub returns-then-fits-clause-found : goal.returns-then-fits-clause-found
+returns-then-fits-clause-found c = search rules
+
+pub returns-then-fits-clause-read : goal.returns-then-fits-clause-read
+returns-then-fits-clause-read c = sym (sig_read c.args.words.now _ (returns-then-fits-clause-found c))
+
+pub returns-then-words-ne-KIND-clause-none : goal.returns-then-words-ne-KIND-clause-none
+returns-then-words-ne-KIND-clause-none c = search rules
+
+pub returns-then-words-ne-KIND-clause-read : goal.returns-then-words-ne-KIND-clause-read
+returns-then-words-ne-KIND-clause-read c =
+    reads_none (IsSig c.args.words.now) (sig_in c.args.words.now) (sig_is c.args.words.now) (returns-then-words-ne-KIND-clause-none c)
+
+pub returns-else-fits-clause-none : goal.returns-else-fits-clause-none
+returns-else-fits-clause-none c = search rules
+
+pub returns-else-fits-clause-read : goal.returns-else-fits-clause-read
+returns-else-fits-clause-read c =
+    reads_none (IsSig c.args.words.now) (sig_in c.args.words.now) (sig_is c.args.words.now) (returns-else-fits-clause-none c)
