@@ -2,3 +2,4 @@
 pub mod Outcomes
 pub mod Stores
 pub mod Changes
+pub mod Openings

@@ -6,6 +6,7 @@
 mod commit;
 mod copying;
 mod opening;
+mod payload;
 mod word_store;
 
 #[cfg(test)]
