@@ -3,3 +3,4 @@ pub mod Outcomes
 pub mod Stores
 pub mod Changes
 pub mod Openings
+pub mod Payloads

@@ -79,3 +79,8 @@ module _ (area : Area) (payload : List ℕ) (fits : length payload ≤ 1006) whe
     pub opened-overlay : (number : ℕ) → overlay (opened area payload) number ≡ laid ranges number (opened area payload number)
     unfolding overlay
     opened-overlay number = ap (λ (o : Option (List WordRange)). laid (or_none o) number (opened area payload number)) (open_ranges_of (opened area payload) ranges opened-intent)
+
+-- the seal of the gate, and from it that of the payload
+pub seal_from-gate : (gate : ℕ) (payload : List ℕ) → seal_from (seal_from intent_kind (gate ∷ [])) payload ≡ seal_from intent_kind (gate ∷ payload)
+unfolding seal_from
+seal_from-gate gate payload = refl
