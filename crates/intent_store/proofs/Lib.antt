@@ -4,3 +4,5 @@ pub mod Stores
 pub mod Changes
 pub mod Openings
 pub mod Payloads
+pub mod Reading
+pub mod Seams

@@ -13,3 +13,7 @@ module _ {T E : Type 0} where
   pub either_way : (r : Result T E) (P : Type 0) → OnOk r P → OnErr r P → P
   either_way (Ok x) P ok err = ok
   either_way (Err e) P ok err = err
+
+  pub at_err : (r : Result T E) (P : Type 0) → P → OnErr r P
+  at_err (Ok x) P h = tt
+  at_err (Err e) P h = h

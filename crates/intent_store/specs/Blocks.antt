@@ -4,7 +4,8 @@ use Rattle.ow_base.specs.Seals.{seal_from}
 use Rattle.ow_base.specs.Words.{updated}
 use Rattle.record_layouts.specs.declared.intent.Change.{Change}
 use Rattle.record_layouts.specs.declared.memory_map.MemoryMap.{MemoryMap}
-use Rattle.record_layouts.specs.Held.{Records}
+use Rattle.record_layouts.specs.declared.patch.PatchItem.{PatchItem}
+use Rattle.record_layouts.specs.Held.{Records, with_items}
 use Rattle.record_layouts.specs.Overlay.{Area, gate_of, gate_word, payload_word, seal_word, intent_kind, lies_in, overlay, open_ranges}
 use Rattle.record_layouts.specs.Reading.{is_readable_gate, records_in}
 
@@ -52,3 +53,11 @@ pub record ReadsAs (old new : Area) : Type 0 where
 -- the intent is carried out, and it is closed
 abbrev pub rolled : Area → Area
 rolled area = updated (overlay area) gate_word 0
+
+-- the same records are read of both
+pub record IsSeenAs (old new : Area) : Type 0 where
+  pub same : (map : MemoryMap) → seen map new ≡ seen map old
+
+-- the records of a patch are set
+pub record IsSeenSet (items : List PatchItem) (old new : Area) : Type 0 where
+  pub set : (map : MemoryMap) → seen map new ≡ with_items (seen map old) items
