@@ -5,9 +5,13 @@
 
 mod commit;
 mod copying;
+mod frames;
+mod live;
 mod opening;
 mod payload;
 mod word_store;
+
+pub use live::Live;
 
 #[cfg(test)]
 mod tests;
