@@ -4,5 +4,7 @@ pub mod Stores
 pub mod Changes
 pub mod Openings
 pub mod Payloads
+pub mod Words
+pub mod Plants
 pub mod Reading
 pub mod Seams

@@ -35,8 +35,16 @@ pub(crate) fn copy_frame<W: WordStore>(store: &mut W, from: u32, to: u32) -> Res
     ensures place { W.place store.new ≡ W.place store.old }
 {
     for word in 0..FRAME {
-        let value = store.load(from, word).unwrap_or(0);
+        let value = word_at(store, from, word);
         store.store(to, word, value)?;
     }
     Ok(())
+}
+
+// The word of a frame, and 0 where it is not there.
+fn word_at<W: WordStore>(store: &W, frame: u32, word: u32) -> u32
+    requires { word < 1024 }
+    ensures { result ≡ word_or_zero (W.words store.now frame word) }
+{
+    store.load(frame, word).unwrap_or(0)
 }
