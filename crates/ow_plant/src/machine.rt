@@ -311,7 +311,6 @@ impl Plant {
 
     /// The area of the kernel that runs.
     pub fn live(&self) -> AreaId
-        requires armed { self.now.armed ≡ true }
         ensures { result ≡ self.now.live }
     {
         self.live
@@ -320,7 +319,6 @@ impl Plant {
     /// What a kernel knows of the machine now: the number of the trap that runs, and else of the coming one, at most
     /// the last value of the count; how many frames for pages and how many sectors there are. Nothing is typed yet.
     pub fn now(&self) -> Now
-        requires armed { self.now.armed ≡ true }
         ensures now { result ≡ now_of self.now }
         ensures fits { result.user_frames ≤ 384 }
     {

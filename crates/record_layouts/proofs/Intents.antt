@@ -123,7 +123,7 @@ within_part low high begin end number within lies = grind (arith, nat_tests)
 pub lies_beside : (begin end number : ℕ) → may_change begin end ≡ true → may_change number (number + 1) ≡ false → lies_in begin end number ≡ false
 lies_beside begin end number changes stays = grind (arith, nat_tests, within_part)
 
-laid-beside : (ranges : List WordRange) (number word : ℕ) → All IsAllowed ranges → may_change number (number + 1) ≡ false → laid ranges number word ≡ word
+pub laid-beside : (ranges : List WordRange) (number word : ℕ) → All IsAllowed ranges → may_change number (number + 1) ≡ false → laid ranges number word ≡ word
 unfolding laid
 laid-beside [] number word allowed stays = refl
 laid-beside (range ∷ ranges) number word allowed stays =

@@ -188,7 +188,7 @@ module _ (area : Area) (place end : ℕ) where
           | inr beside ↦ rw beside refl
         ])
 
-    laid-first : (number word : ℕ) → laid (or_none (ranges_in (words_from area place (end - place)))) number word
+    pub laid-first : (number word : ℕ) → laid (or_none (ranges_in (words_from area place (end - place)))) number word
         ≡ laid (or_none (ranges_in (words_from area (values_end change) (end - values_end change)))) number
         (if lies_in change.span.begin change.span.end number then area (change.values + (number - change.span.begin)) else word)
     laid-first number word =

@@ -12,11 +12,11 @@ use ow_base::{WordSource, seal};
 // The frames of an area.
 const FRAMES: u32 = 64;
 
-// The word of an area that is the gate.
-const GATE: u32 = 16;
+/// The word of an area that is the gate.
+pub const GATE: u32 = 16;
 
-// The first word of the payload, which lies behind the gate.
-const PAYLOAD: u32 = 17;
+/// The first word of the payload, which lies behind the gate.
+pub const PAYLOAD: u32 = 17;
 
 // The most words that a payload has.
 const MOST_PAYLOAD: u32 = 1006;
@@ -24,11 +24,11 @@ const MOST_PAYLOAD: u32 = 1006;
 // The words of a range before those that it spells.
 const RANGE_HEAD: u32 = 3;
 
-// The word of an area that holds the seal of the gate and the payload.
-const SEAL: u32 = 1023;
+/// The word of an area that holds the seal of the gate and the payload.
+pub const SEAL: u32 = 1023;
 
-// The word with which that seal begins.
-const INTENT_KIND: u32 = 0x494e_5445;
+/// The word with which that seal begins.
+pub const INTENT_KIND: u32 = 0x494e_5445;
 
 // The head, which an intent may change.
 const HEAD: Span = Span { begin: 0, end: 16 };
@@ -65,23 +65,24 @@ pub(crate) struct Area<'a, W> {
     ghost room: { base + 64 ≤ 2 ^ 32 },
 }
 
-// Words of an area that lie one behind the other, from `begin` on and before `end`.
-#[derive(Clone, Copy)]
-pub(crate) struct Span {
-    pub(crate) begin: u32,
-    pub(crate) end: u32,
+/// Words of an area that lie one behind the other, from the number `begin` on and before `end`.
+#[derive(Clone, Copy, Debug, PartialEq, Eq)]
+pub struct Span {
+    pub begin: u32,
+    pub end: u32,
 }
 
-// Words of the area that an intent changes, and the number of the first of their new values.
-#[derive(Clone, Copy)]
-pub(crate) struct Change {
-    pub(crate) span: Span,
-    pub(crate) values: u32,
+/// Words of the area that an intent changes, and the number of the first of their new values, which lie in its payload
+/// one behind the other.
+#[derive(Clone, Copy, Debug, PartialEq, Eq)]
+pub struct Change {
+    pub span: Span,
+    pub values: u32,
 }
 
 impl Change {
-    // The number behind the last new value.
-    fn values_end(self) -> u32
+    /// The number behind the last new value, where the payload's next range begins.
+    pub fn values_end(self) -> u32
         requires order { self.span.begin ≤ self.span.end }
         requires fits { self.values + (self.span.end - self.span.begin) < 2 ^ 32 }
         ensures { result ≡ values_end self }
@@ -170,9 +171,9 @@ impl<W: WordSource> Area<'_, W> {
         }
     }
 
-    // Where the payload of the open intent ends, if this is valid.
+    /// Where the payload of the open intent ends, if this is valid.
     #[tactic(auto, unfolding(crate::specs::Overlay::open_ranges))]
-    fn open_end(&self) -> Option<u32>
+    pub(crate) fn open_end(&self) -> Option<u32>
         ensures found { IfSome result (EndsOpen (area_at (W.words self.now.source.now) self.now.base)) }
         ensures none { IfNone result (open_ranges (area_at (W.words self.now.source.now) self.now.base) ≡ None) }
     {
@@ -236,11 +237,12 @@ impl<W: WordSource> Area<'_, W> {
         word
     }
 
-    // The change that the payload from `place` up to `end` begins with, if a range of words that may change stands there.
-    fn change(&self, place: u32, end: u32) -> Option<Change>
+    /// The change that the payload from `place` up to `end` begins with, if a range of words that may change stands there.
+    pub(crate) fn change(&self, place: u32, end: u32) -> Option<Change>
         requires place { place ≤ end }
         requires end { end ≤ 1023 }
         ensures found { IfSome result (StandsFirst (area_at (W.words self.now.source.now) self.now.base) place end) }
+        ensures changes { IfSome result (λ change. may_change change.span.begin change.span.end ≡ true) }
         ensures none { IfNone result (place < end → ranges_in (words_from (area_at (W.words self.now.source.now) self.now.base) place (end - place)) ≡ None) }
     {
         if end - place < RANGE_HEAD {

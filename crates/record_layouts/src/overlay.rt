@@ -1,8 +1,8 @@
 //! The words of an area with a valid open intent laid over them.
-ghost use Rattle.std.specs.Prelude.{◌≡◌, ◌+◌, ◌*◌, ◌^◌, ◌<◌, ◌≤◌};
-ghost use Rattle.record_layouts.specs.Overlay.{area_at, gate_of, overlay};
+ghost use Rattle.std.specs.Prelude.{◌≡◌, ◌+◌, ◌*◌, ◌<◌, ◌≤◌, ◌-◌, ◌^◌, true, None, IfSome, IfNone};
+ghost use Rattle.record_layouts.specs.Overlay.{EndsOpen, StandsFirst, area_at, gate_of, may_change, open_ranges, overlay, ranges_in, words_from};
 
-use crate::intent::{Area, Gate};
+use crate::intent::{Area, Change, Gate};
 use crate::places::FRAME;
 use ow_base::WordSource;
 
@@ -26,6 +26,30 @@ pub fn overlaid<W: WordSource>(source: &W, base: u32, frame: u32, word: u32) -> 
     ensures { result ≡ overlay (area_at (W.words source.now) base) (1024 * frame + word) }
 {
     Area { source, base }.overlaid(FRAME * frame + word)
+}
+
+/// The number of the word behind the payload of the open intent of the area that begins at frame `base`. `None` comes
+/// where no valid intent is open. The frames of the area have numbers below 2^32.
+pub fn open_end<W: WordSource>(source: &W, base: u32) -> Option<u32>
+    requires { base + 64 ≤ 2 ^ 32 }
+    ensures found { IfSome result (EndsOpen (area_at (W.words source.now) base)) }
+    ensures none { IfNone result (open_ranges (area_at (W.words source.now) base) ≡ None) }
+{
+    Area { source, base }.open_end()
+}
+
+/// The change of the range with which the words from the number `place` up to `end`, of a payload in the area that
+/// begins at frame `base`, begin. `None` comes where no range of words that an intent may change stands there. The
+/// frames of the area have numbers below 2^32.
+pub fn change_at<W: WordSource>(source: &W, base: u32, place: u32, end: u32) -> Option<Change>
+    requires room { base + 64 ≤ 2 ^ 32 }
+    requires place { place ≤ end }
+    requires end { end ≤ 1023 }
+    ensures found { IfSome result (StandsFirst (area_at (W.words source.now) base) place end) }
+    ensures changes { IfSome result (λ change. may_change change.span.begin change.span.end ≡ true) }
+    ensures none { IfNone result (place < end → ranges_in (words_from (area_at (W.words source.now) base) place (end - place)) ≡ None) }
+{
+    Area { source, base }.change(place, end)
 }
 
 #[cfg(test)]

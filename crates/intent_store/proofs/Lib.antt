@@ -1,0 +1,10 @@
+-- Lemmas on stores, and on areas with an intent.
+pub mod Outcomes
+pub mod Stores
+pub mod Changes
+pub mod Openings
+pub mod Payloads
+pub mod Words
+pub mod Plants
+pub mod Reading
+pub mod Seams

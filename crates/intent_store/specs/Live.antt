@@ -1,0 +1,54 @@
+-- What contracts see of the kernel that runs on a plant.
+use Rattle.std.specs.Prelude.{◌≡◌, ℕ, ◌+◌, Bool, true, false, not, ◌&&◌, List, [], length, replicate, is_some}
+use Rattle.ow_base.specs.declared.machine.AreaId.{AreaId}
+use Rattle.ow_base.specs.declared.machine.AreaId.TheVariants.{A, B}
+use Rattle.ow_plant.specs.State.{IsArmed, PlantState}
+use Rattle.phys_memory.specs.Memory.{MemoryParts, words_of}
+use Rattle.record_layouts.specs.declared.memory_map.MemoryMap.{MemoryMap}
+use Rattle.record_layouts.specs.Held.{Held, Records, beside}
+use Rattle.record_layouts.specs.Overlay.{area_at, gate_of}
+use Rattle.record_layouts.specs.Reading.{records_of}
+use Rattle.record_layouts.specs.declared.intent.Gate.{Gate}
+
+-- the first frame of an area: half A follows the boot frame, and half B follows it
+abbrev pub base_of : AreaId → (user_frames : ℕ) → ℕ
+base_of A user_frames = 1
+base_of B user_frames = 129 + user_frames
+
+-- where the frames of the kernel are that runs
+abbrev pub map_of : PlantState → MemoryMap
+map_of s = record {
+  area_base = base_of s.live s.shape.user_frames;
+  cache_base = base_of s.live s.shape.user_frames + 64;
+  pool_base = base_of s.live s.shape.user_frames + 128;
+  user_frames = s.shape.user_frames;
+  sectors = s.shape.sectors;
+}
+
+-- its records
+abbrev pub records_held : PlantState → Records
+records_held s = records_of (map_of s) (words_of s.memory)
+
+-- memory of the same size with 0 in each word
+abbrev pub blank_words : List ℕ → List ℕ
+blank_words words = replicate (length words) 0
+
+unfoldable pub blank : MemoryParts → MemoryParts
+blank m = record { boot = blank_words m.boot; a = blank_words m.a; b = blank_words m.b }
+
+-- the plant but for its words, the refusal and the counts of stores
+abbrev pub rest_of : PlantState → PlantState
+rest_of s = record s { memory = blank s.memory; refused = false; stores = 0; all_stores = 0 }
+
+-- it is armed, and no refusal stands
+abbrev pub is_able : PlantState → Bool
+is_able s = s.armed && not s.refused
+
+-- it is armed, and the head decodes
+pub record IsStanding (s : PlantState) : Type 0 where
+  pub armed : IsArmed s
+  pub decodes : is_some (records_held s).head ≡ true
+
+-- what the intent block of the area says
+abbrev pub gate_held : PlantState → Gate
+gate_held s = gate_of (area_at (words_of s.memory) (map_of s).area_base)

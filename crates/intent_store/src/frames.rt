@@ -1,0 +1,50 @@
+//! Whole frames that are stored word by word.
+ghost use Rattle.std.specs.Prelude.{◌≡◌, ℕ, ◌<◌, true, false, is_some, OnOk, OnErr};
+ghost use Rattle.ow_base.specs.Sv32.{word_or_zero};
+ghost use Rattle.intent_store.specs.Stores.{IsBegun, with_first};
+
+use crate::word_store::{FRAME, WordStore};
+use ow_base::{Panicked, WordSource};
+
+/// Makes all words of a frame that is there 0, the first one first.
+pub(crate) fn zero_frame<W: WordStore>(store: &mut W, frame: u32) -> Result<(), Panicked>
+    requires able { W.able store.old ≡ true }
+    requires there { (word : ℕ) → word < 1024 → is_some (W.words store.old frame word) ≡ true }
+    ensures ok { OnOk result (W.words store.new ≡ with_first (W.words store.old) frame 1024 (λ w. 0)) }
+    ensures err { OnErr result (IsBegun (W.words store.old) frame (λ w. 0) (W.words store.new)) }
+    ensures rest { W.rest store.new ≡ W.rest store.old }
+    ensures stays { OnOk result (W.able store.new ≡ true) }
+    ensures cause { OnErr result (W.able store.new ≡ false) }
+    ensures place { W.place store.new ≡ W.place store.old }
+{
+    for word in 0..FRAME {
+        store.store(frame, word, 0)?;
+    }
+    Ok(())
+}
+
+/// Copies a frame that is there over one that is there, the first word first.
+pub(crate) fn copy_frame<W: WordStore>(store: &mut W, from: u32, to: u32) -> Result<(), Panicked>
+    requires able { W.able store.old ≡ true }
+    requires there { (word : ℕ) → word < 1024 → is_some (W.words store.old to word) ≡ true }
+    ensures ok { OnOk result (W.words store.new ≡ with_first (W.words store.old) to 1024 (λ w. word_or_zero (W.words store.old from w))) }
+    ensures err { OnErr result (IsBegun (W.words store.old) to (λ w. word_or_zero (W.words store.old from w)) (W.words store.new)) }
+    ensures rest { W.rest store.new ≡ W.rest store.old }
+    ensures stays { OnOk result (W.able store.new ≡ true) }
+    ensures cause { OnErr result (W.able store.new ≡ false) }
+    ensures place { W.place store.new ≡ W.place store.old }
+{
+    for word in 0..FRAME {
+        let value = word_at(store, from, word);
+        store.store(to, word, value)?;
+    }
+    Ok(())
+}
+
+// The word of a frame, and 0 where it is not there.
+fn word_at<W: WordStore>(store: &W, frame: u32, word: u32) -> u32
+    requires { word < 1024 }
+    ensures { result ≡ word_or_zero (W.words store.now frame word) }
+{
+    store.load(frame, word).unwrap_or(0)
+}
