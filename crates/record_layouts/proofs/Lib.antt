@@ -3,6 +3,7 @@
 pub mod Records
 pub mod Reading
 pub mod Seam
+pub mod Stores
 pub mod Parts
 pub mod Processes
 pub mod Laying

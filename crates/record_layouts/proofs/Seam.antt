@@ -64,7 +64,7 @@ module _ (area : Area) (range : WordRange) where
   words_apart first count (inr behind) = words_from-same _ _ first count (λ number low high. beside_range number (inl (omega arith)))
 
 -- the record of a kind with this number, where there is such a one
-abbrev read_at : {A : Type 0} → (read : List ℕ → Option A) (kind : ℕ → RecordId) (test : ℕ → Bool) → Area → ℕ → Option A
+abbrev pub read_at : {A : Type 0} → (read : List ℕ → Option A) (kind : ℕ → RecordId) (test : ℕ → Bool) → Area → ℕ → Option A
 read_at read kind test area i = if test i then read (words_of area (kind i)) else None
 
 module _ (area : Area) (range : WordRange) (one : RecordId) (there : IsRecordId one) (begin : begin_of range ≡ first_word one) (long : length range.words ≡ length_of one) where
@@ -100,7 +100,7 @@ module _ (area : Area) (range : WordRange) (one : RecordId) (there : IsRecordId 
   beside_records : (number : ℕ) → IsAllowed range → may_change number (number + 1) ≡ false → with_range area range number ≡ area number
   beside_records number allowed stays = rw (lies_beside (begin_of range) (end_of range) number allowed.changes stays) refl
 
-same_where : (test : Bool) (some other : ℕ) → (test ≡ true → some ≡ other) → (if test then some else 0) ≡ (if test then other else 0)
+pub same_where : (test : Bool) (some other : ℕ) → (test ≡ true → some ≡ other) → (if test then some else 0) ≡ (if test then other else 0)
 same_where true some other same = same refl
 same_where false some other same = refl
 
