@@ -1,8 +1,8 @@
 //! What holds of the frames of all records. The functions do nothing: their contracts are the laws.
 
 ghost use Rattle.std.specs.Prelude.{◌≡◌, ℕ, ◌+◌, ◌^◌, ◌<◌, ◌≤◌, true, Some};
-ghost use Rattle.ow_base.specs.Sv32.{WordMap};
-ghost use Rattle.sv32_tables.specs.Spaces.{IsMapped, pages_in};
+ghost use Rattle.ow_base.specs.Sv32.{WordMap, pages_by};
+ghost use Rattle.sv32_tables.specs.Spaces.{IsMapped, pages_in, satp_of};
 ghost use Rattle.record_layouts.specs.declared.proc.ProcRec.{ProcRec};
 ghost use Rattle.record_layouts.specs.Held.{Records};
 ghost use Rattle.record_layouts.specs.Pages.{frame_of, is_mapped, page_frame_of, page_total, pages_of, table_frame};
@@ -26,11 +26,14 @@ pub const fn pages_are_counted()
     ensures { (process : ProcRec) (count : ℕ) → FitsProc process → 2 ^ 19 ≤ count → pages_held process count ≡ page_total process }
 {}
 
-/// The tables of a live process lead where its pages lie, and to nothing else.
-#[tactic(auto, using(crate::proofs::Tables::tables_mapped))]
+/// The tables of a live process lead where its pages lie, and to nothing else. So what a program has by these tables is
+/// the pages of the process.
+#[tactic(auto, using(crate::proofs::Tables::tables_mapped, crate::proofs::Tables::pages_by_tables))]
 pub const fn tables_lead_to_pages()
-    ensures { (r : Records) (words : WordMap) (slot : ℕ) (process : ProcRec) → AreOfMemory r words → AreMapped r → IsIn r slot process
+    ensures tables { (r : Records) (words : WordMap) (slot : ℕ) (process : ProcRec) → AreOfMemory r words → AreMapped r → IsIn r slot process
         → FitsProc process → IsMapped words (r.map.area_base + table_frame slot 0) (map_of r slot process) }
+    ensures pages { (r : Records) (words : WordMap) (slot : ℕ) (process : ProcRec) → AreOfMemory r words → AreMapped r → IsIn r slot process
+        → FitsProc process → pages_by words (satp_of (r.map.area_base + table_frame slot 0)) ≡ pages_of r words slot process }
 {}
 
 /// Where each page of a process has a frame, the pages that have frames are the pages of the process.
