@@ -1,5 +1,5 @@
 -- The bytes that are read from pages.
-use Rattle.std.proofs.Common.{◌≡◌, ℕ, zero, suc, ◌+◌, ◌-◌, ◌/◌, ◌%◌, ◌^◌, ◌<◌, ◌≤◌, true, false, List, [], ◌∷◌, length, get_or, Option, Some, None, IfSome, is_some, refl, sym, ap, ◌∙◌, inl, inr, arith, add-zero}
+use Rattle.std.proofs.Common.{◌≡◌, ℕ, suc, ◌+◌, ◌-◌, ◌/◌, ◌%◌, ◌^◌, ◌<◌, ◌≤◌, true, false, List, [], ◌∷◌, length, get_or, Option, Some, None, IfSome, is_some, refl, sym, ap, ◌∙◌, inl, inr, arith, add-zero}
 use Rattle.std.proofs.lemmas.Bool.{cases_lt}
 use Rattle.std.proofs.lemmas.Grind.{common_steps}
 use borrow.Rule.Slice.PartMut.{put_mid}
@@ -66,28 +66,28 @@ module _ (r : Records) (words : WordMap) (slot : ℕ) (process : Option ProcRec)
   unfolding map_in
   mapping_there page a same = rw (same, there) refl
 
-  pub unread_behind : (done count : ℕ) → IfSome process FitsProc → done < count → 2 ^ 32 ≤ address + done → is_readable (framed_pages r words slot) address count ≡ false
+  pub unread_behind : (done count : ℕ) → IfSome process FitsProc → done < count → 2 ^ 32 ≤ address + done → false ≡ is_readable (framed_pages r words slot) address count
   unread_behind done count fits below high =
       let page : ℕ = (address + done) / 4096 in
-      unreadable_at (framed_pages r words slot) address count done below
-      (ap rights_in (mapping_there page (address + done) refl ∙ none_behind r slot page process fits (omega arith)))
+      sym (unreadable_at (framed_pages r words slot) address count done below
+      (ap rights_in (mapping_there page (address + done) refl ∙ none_behind r slot page process fits (omega arith))))
 
-  pub unread_without_frame : (done count : ℕ) → done < count → frame_if r slot ((address + done) / 4096) process ≡ None → is_readable (framed_pages r words slot) address count ≡ false
+  pub unread_without_frame : (done count : ℕ) → done < count → frame_if r slot ((address + done) / 4096) process ≡ None → false ≡ is_readable (framed_pages r words slot) address count
   unread_without_frame done count below none =
       let page : ℕ = (address + done) / 4096 in
-      unreadable_at (framed_pages r words slot) address count done below
-      (ap rights_in (mapping_there page (address + done) refl ∙ none_without_frame r slot page process none))
+      sym (unreadable_at (framed_pages r words slot) address count done below
+      (ap rights_in (mapping_there page (address + done) refl ∙ none_without_frame r slot page process none)))
 
-  pub unwritten_behind : (done count : ℕ) → IfSome process FitsProc → done < count → 2 ^ 32 ≤ address + done → is_writable (framed_pages r words slot) address count ≡ false
+  pub unwritten_behind : (done count : ℕ) → IfSome process FitsProc → done < count → 2 ^ 32 ≤ address + done → false ≡ is_writable (framed_pages r words slot) address count
   unwritten_behind done count fits below high =
       let page : ℕ = (address + done) / 4096 in
-      unwritable_at (framed_pages r words slot) address count done below
-      (ap (λ m. are_values (rights_in m)) (mapping_there page (address + done) refl ∙ none_behind r slot page process fits (omega arith)))
+      sym (unwritable_at (framed_pages r words slot) address count done below
+      (ap (λ m. are_values (rights_in m)) (mapping_there page (address + done) refl ∙ none_behind r slot page process fits (omega arith))))
 
-  pub unwritten_at : (done count : ℕ) → done < count → are_values (rights_in (map_if r slot ((address + done) / 4096) process)) ≡ false → is_writable (framed_pages r words slot) address count ≡ false
+  pub unwritten_at : (done count : ℕ) → done < count → are_values (rights_in (map_if r slot ((address + done) / 4096) process)) ≡ false → false ≡ is_writable (framed_pages r words slot) address count
   unwritten_at done count below none =
       let page : ℕ = (address + done) / 4096 in
-      unwritable_at (framed_pages r words slot) address count done below (ap (λ m. are_values (rights_in m)) (mapping_there page (address + done) refl) ∙ none)
+      sym (unwritable_at (framed_pages r words slot) address count done below (ap (λ m. are_values (rights_in m)) (mapping_there page (address + done) refl) ∙ none))
 
   -- the bytes of one page more are read
   pub read_more : (old part : List ℕ) (done end frame : ℕ) → AreRead (framed_pages r words slot) address old done → frame_if r slot ((address + done) / 4096) process ≡ Some frame

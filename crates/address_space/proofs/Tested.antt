@@ -1,7 +1,5 @@
 -- Ranges of bytes of which each is tested.
 use Rattle.std.proofs.Common.{◌≡◌, ℕ, zero, suc, ◌+◌, ◌<◌, Bool, true, false, ◌&&◌, refl, ◌∙◌, arith, add-zero}
-use Rattle.ow_base.specs.Pages.{Pages, is_readable, rights_at}
-use Rattle.address_space.specs.Writable.{are_values, is_writable}
 
 both_true : (a b : Bool) → a ≡ true → b ≡ true → (a && b) ≡ true
 both_true true true p q = refl

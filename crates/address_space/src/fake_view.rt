@@ -79,7 +79,8 @@ impl WordSource for View {
 
 // The entry of the low table for a page.
 fn low_entry(first_of_values: u32, page: u32) -> u32
-    ensures { result ≡ (if nat_lt page 16 || not (nat_lt page 28) then 0 else (156 - page) * 1024 + (if nat_lt page first_of_values then 91 else 215)) }
+    ensures { result ≡ (if nat_lt page 16 || not (nat_lt page 28) then 0 else
+        (156 - page) * 1024 + (if nat_lt page first_of_values then 91 else 215)) }
 {
     if !(16..28).contains(&page) {
         return 0;
@@ -112,7 +113,8 @@ impl RecordView for View {
       table_words = λ slot table word.
           if not (slot == 2) then 0 else
           if table == 0 then (if word == 0 then 24577 else if word == 511 then 25601 else 0) else
-          if table == 1 then (if nat_lt word 16 || not (nat_lt word 28) then 0 else (156 - word) * 1024 + (if nat_lt word v.first_of_values then 91 else 215)) else
+          if table == 1 then (if nat_lt word 16 || not (nat_lt word 28) then 0 else
+          (156 - word) * 1024 + (if nat_lt word v.first_of_values then 91 else 215)) else
           if nat_lt word 1020 then 0 else (word - 879) * 1024 + 215;
     } };
 

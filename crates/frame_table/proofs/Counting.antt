@@ -1,10 +1,10 @@
 -- Which pages the regions of a process hold, and how many.
-use Rattle.std.proofs.Common.{◌≡◌, ℕ, zero, suc, ◌+◌, ◌-◌, ◌*◌, ◌/◌, ◌^◌, ◌<◌, ◌≤◌, ◌⊎◌, Bool, true, false, min, Option, Some, None, is_some, refl, sym, ap, ◌∙◌, inl, inr, arith}
+use Rattle.std.proofs.Common.{◌≡◌, ℕ, zero, suc, ◌+◌, ◌-◌, ◌^◌, ◌<◌, ◌≤◌, ◌⊎◌, true, false, min, Option, Some, None, is_some, refl, ap, inl, inr, arith}
 use Rattle.std.proofs.lemmas.Bool.{cases_Bool, cases_lt}
 use Rattle.std.proofs.lemmas.Bool.Decides.{nat_tests}
 use Rattle.ow_base.specs.declared.machine.Rights.{Rights}
 use Rattle.record_layouts.specs.declared.proc.ProcRec.{ProcRec}
-use Rattle.record_layouts.specs.Unix.{is_within}
+use Rattle.record_layouts.specs.Held.{AreValues, Records}
 use Rattle.record_layouts.specs.Proc.{FitsProc, FitsLive}
 use Rattle.record_layouts.specs.Pages.{is_live, heap_pages, region_of, page_total}
 use Rattle.frame_table.specs.Counts.{one_page, pages_held}
@@ -16,6 +16,10 @@ values_end process = 16 + (process.code_pages + (process.data_pages + heap_pages
 -- a page from 16 up to the heap's end, or one of the stack's four
 abbrev pub IsOfRegions : ProcRec → (page : ℕ) → Type 0
 IsOfRegions process page = ((16 ≤ page) × (page < values_end process)) ⊎ ((0x7fffc ≤ page) × (page < 0x80000))
+
+-- a record that is there is a value of its layout
+pub fits_there : (r : Records) (slot : ℕ) (process : ProcRec) → AreValues r → r.procs slot ≡ Some process → FitsProc process
+fits_there r slot process values there = rw there at (values.procs slot)
 
 pub live_fits : (process : ProcRec) → FitsProc process → is_live process ≡ true → FitsLive process
 live_fits process fits live = fits.live (grind (arith, nat_tests))

@@ -1,7 +1,7 @@
 -- What a frame that is found tells, and that no two pages have one.
-use Rattle.std.proofs.Common.{◌≡◌, ℕ, ◌+◌, ◌-◌, ◌*◌, ◌/◌, ◌%◌, ◌^◌, ◌<◌, ◌≤◌, ◌==◌, ◌&&◌, Bool, true, false, not, nat_lt, Option, Some, None, if◌then◌else◌, refl, sym, ap, ◌∙◌, arith}
+use Rattle.std.proofs.Common.{◌≡◌, ℕ, ◌-◌, ◌^◌, ◌<◌, ◌≤◌, Option, Some, None, refl, sym, ap, ◌∙◌, arith}
 use Rattle.std.proofs.lemmas.Bool.Decides.{nat_tests}
-use Rattle.ow_base.specs.Entries.{leaf_word, leaf_flags}
+use Rattle.ow_base.specs.Entries.{leaf_word}
 use Rattle.ow_base.specs.declared.machine.Rights.{Rights}
 use Rattle.ow_base.specs.declared.machine.Rights.TheVariants.{Code, Values}
 use Rattle.record_layouts.specs.declared.proc.ProcRec.{ProcRec}

@@ -1,5 +1,5 @@
 -- The pages of a slot that have a frame.
-use Rattle.std.proofs.Common.{◌≡◌, ℕ, ◌^◌, ◌<◌, ◌≤◌, ◌%◌, Bool, true, false, Option, Some, None, IfSome, is_some, refl, ap, inl, inr, arith}
+use Rattle.std.proofs.Common.{◌≡◌, ℕ, ◌^◌, ◌≤◌, true, Option, Some, None, IfSome, is_some, refl, inl, inr, arith}
 use Rattle.std.proofs.lemmas.Bool.{cases_Bool}
 use Rattle.ow_base.specs.Sv32.{WordMap}
 use Rattle.sv32_tables.specs.Spaces.{rights_in, byte_in}

@@ -1,20 +1,19 @@
 -- That the tables of a process are read as its pages.
-use Rattle.std.proofs.Common.{◌≡◌, ◌≢◌, ℕ, zero, suc, ◌+◌, ◌-◌, ◌*◌, ◌/◌, ◌%◌, ◌^◌, ◌<◌, ◌≤◌, ◌⊎◌, ◌==◌, ◌&&◌, Bool, true, false, Option, Some, None, is_some, if◌then◌else◌, refl, sym, ap, ◌∙◌, inl, inr, arith}
-use Rattle.std.proofs.lemmas.Bool.{cases_Bool, cases_lt, cases_eq}
+use Rattle.std.proofs.Common.{◌≡◌, ◌≢◌, ℕ, zero, suc, ◌+◌, ◌-◌, ◌/◌, ◌%◌, ◌^◌, ◌<◌, ◌≤◌, ◌==◌, ◌&&◌, Bool, true, false, Option, Some, None, is_some, if◌then◌else◌, refl, sym, ap, ◌∙◌, inl, inr, arith}
+use Rattle.std.proofs.lemmas.Bool.{cases_lt, cases_eq}
 use Rattle.std.proofs.lemmas.Bool.Decides.{nat_tests}
-use Rattle.ow_base.specs.Entries.{leaf_word, pointer_word}
-use Rattle.ow_base.specs.Sv32.{WordMap}
+use Rattle.ow_base.specs.Entries.{pointer_word}
+use Rattle.ow_base.specs.Sv32.{WordMap, pages_by}
 use Rattle.ow_base.specs.declared.machine.Rights.{Rights}
-use Rattle.ow_base.specs.declared.machine.Rights.TheVariants.{Code, Values}
-use Rattle.sv32_tables.specs.Spaces.{Mapping, IsMapped, entry_of, rights_in, byte_in, pages_in}
-use Rattle.sv32_tables.proofs.Spaces.{pages_ext}
+use Rattle.sv32_tables.specs.Spaces.{Mapping, IsMapped, entry_of, rights_in, byte_in, pages_in, satp_of}
+use Rattle.sv32_tables.proofs.Spaces.{pages_by-mapped, pages_ext}
 use Rattle.record_layouts.specs.declared.proc.ProcRec.{ProcRec}
 use Rattle.record_layouts.specs.Held.{Records}
 use Rattle.record_layouts.specs.Proc.{FitsProc}
 use Rattle.record_layouts.specs.Sound.{IsIn, AreMapped, is_table_place}
-use Rattle.record_layouts.specs.Pages.{byte_on, claim_of, entry_for, frame_of, have_frames, heap_pages, high_place, is_linked, is_live, is_mapped, low_place, pages_of, region_of, table_frame}
+use Rattle.record_layouts.specs.Pages.{byte_on, entry_for, frame_of, have_frames, heap_pages, high_place, is_linked, is_mapped, low_place, pages_of, region_of, table_frame}
 use Rattle.frame_table.specs.Maps.{AreOfMemory, framed_pages, mapping_by, map_in, map_of}
-use Rattle.frame_table.proofs.Counting.{IsOfRegions, values_end, low_end, in_or_out, region_none}
+use Rattle.frame_table.proofs.Counting.{values_end, low_end, in_or_out, region_none}
 use Rattle.frame_table.proofs.Found.{IsFrameOf, frame_found, one_page_each}
 
 -- each of the pages from the first on has a frame
@@ -235,3 +234,7 @@ module _ (r : Records) (slot : ℕ) (process : ProcRec) (at : IsIn r slot proces
               ((λ q. absurd (omega (arith, q))), (λ q. absurd (omega (arith, q))), (λ q. absurd (omega (arith, q))));
           apart = apart;
         }
+
+    -- what a program has by these tables are the pages of the process
+    pub pages_by_tables : pages_by words (satp_of (r.map.area_base + table_frame slot 0)) ≡ pages_of r words slot process
+    pages_by_tables = pages_by-mapped tables_mapped ∙ pages_same r slot process mapped words

@@ -18,7 +18,7 @@ const CODE: Option<Rights> = Some(Rights::Code);
 
 const VALUES: Option<Rights> = Some(Rights::Values);
 
-const SHAPES: [Shape; 6] = [
+const SHAPES: [Shape; 7] = [
     Shape {
         state: 1,
         code_pages: 2,
@@ -86,7 +86,15 @@ const SHAPES: [Shape; 6] = [
             (1024, None),
         ],
     },
-    // A process that has ended.
+    // A free slot, and a process that has ended.
+    Shape {
+        state: 0,
+        code_pages: 0,
+        data_pages: 0,
+        brk: 0,
+        pages: 0,
+        regions: &[(15, None), (16, None), (0x7_fffc, None), (0x7_ffff, None)],
+    },
     Shape {
         state: 3,
         code_pages: 0,
@@ -102,7 +110,7 @@ fn regions_of_processes(rt: HostRuntime) {
     for shape in &SHAPES {
         let numbers = [
             (1, shape.state),
-            (2, 7),
+            (2, shape.state.min(1)),
             (6, shape.code_pages),
             (7, shape.data_pages),
             (8, shape.brk),

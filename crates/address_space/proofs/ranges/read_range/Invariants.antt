@@ -1,4 +1,4 @@
-use Rattle.std.proofs.Common.{◌≡◌, ℕ, ◌-◌, length}
+use Rattle.std.proofs.Common.{◌≡◌, ◌-◌, length}
 use Rattle.frame_table.specs.Maps.{framed_pages}
 use Rattle.address_space.proofs.Reading.{AreRead}
 use Rattle.address_space.proofs.ranges.read_range.Given as goal
