@@ -149,7 +149,7 @@ other_pid pid q apart = elim (cases_Bool (pid == q)) [
     inl same ↦ let equal : pid ≡ q = grind (arith, nat_tests) in absurd (apart (sym equal))
   | inr other ↦ rw other refl ]
 
-live_not_ended : (process : ProcRec) (q : ℕ) → is_live process ≡ true → is_ended_as q (Some process) ≡ false
+pub live_not_ended : (process : ProcRec) (q : ℕ) → is_live process ≡ true → is_ended_as q (Some process) ≡ false
 live_not_ended process q live = elim (cases_Bool (process.state == 3)) [
     inl ended ↦ let three : process.state ≡ 3 = grind (arith, nat_tests) in absurd (grind (arith, nat_tests, live))
   | inr other ↦ rw other refl ]
