@@ -149,7 +149,7 @@ other_pid pid q apart = elim (cases_Bool (pid == q)) [
     inl same ↦ let equal : pid ≡ q = grind (arith, nat_tests) in absurd (apart (sym equal))
   | inr other ↦ rw other refl ]
 
-live_not_ended : (process : ProcRec) (q : ℕ) → is_live process ≡ true → is_ended_as q (Some process) ≡ false
+pub live_not_ended : (process : ProcRec) (q : ℕ) → is_live process ≡ true → is_ended_as q (Some process) ≡ false
 live_not_ended process q live = elim (cases_Bool (process.state == 3)) [
     inl ended ↦ let three : process.state ≡ 3 = grind (arith, nat_tests) in absurd (grind (arith, nat_tests, live))
   | inr other ↦ rw other refl ]
@@ -189,3 +189,71 @@ child_in r slot process status q ps new (Some place) are is there =
         cc (sym ended ∙ live) in
     let held : new.procs place ≡ r.procs place = ap (λ (f : ℕ → Option ProcRec). f place) are ∙ set_other r.procs slot (Some (ended_process process status)) place apart in
     ap (ended_by (updated ps process.pid None)) held ∙ child_now ps process.pid (r.procs place)
+
+own_child : (is_live_parent : Bool) (parent status : ℕ) → (if is_live_parent then Some (record { parent = parent; status = status }) else None) ≡ child_of is_live_parent parent status
+own_child true parent status = refl
+own_child false parent status = refl
+
+other_test : (q pid : ℕ) → (q ≡ pid → ⊥) → (q == pid) ≡ false
+other_test q pid apart = elim (cases_Bool (q == pid)) [
+    inl same ↦ let equal : q ≡ pid = grind (arith, nat_tests) in absurd (apart equal)
+  | inr other ↦ other ]
+
+-- the ended children now
+children_now : (r : Records) (head : HeadRec) (slot : ℕ) (process : ProcRec) (status trap : ℕ) (ps : ℕ → Option Process) (q : ℕ) → AreNumbered r → IsIn r slot process
+    → ended_of (ended_records r head slot process status trap) (updated ps process.pid None) q
+      ≡ (if q == process.pid then child_of (is_some (updated ps process.pid None process.parent)) process.parent status else unless_child_of process.pid (ended_of r ps q))
+unfolding ended_of
+children_now r head slot process status trap ps q numbered is =
+    let new = ended_records r head slot process status trap in
+    elim (same_or_not q process.pid) [
+      inl same ↦
+        let found : least_from (λ k. is_ended_as process.pid (new.procs k)) 0 16 ≡ Some slot = place_now r slot process status numbered is in
+        let at_slot : new.procs slot ≡ Some (ended_process process status) = set_here r.procs slot (Some (ended_process process status)) in
+        let here : ended_in new (updated ps process.pid None) (least_from (λ k. is_ended_as process.pid (new.procs k)) 0 16)
+                ≡ child_of (is_some (updated ps process.pid None process.parent)) process.parent status =
+            ap (ended_in new (updated ps process.pid None)) found ∙ (ap (ended_by (updated ps process.pid None)) at_slot ∙ own_child (is_some (updated ps process.pid None process.parent)) process.parent status) in
+        let test : (q == process.pid) ≡ true = grind (arith, nat_tests, same) in
+        rw test (subst (λ (k : ℕ). ended_in new (updated ps process.pid None) (least_from (λ j. is_ended_as k (new.procs j)) 0 16)
+            ≡ child_of (is_some (updated ps process.pid None process.parent)) process.parent status) (sym same) here)
+    | inr apart ↦
+        let tests : (λ k. is_ended_as q (new.procs k)) ≡ (λ k. is_ended_as q (r.procs k)) = λ i k. test_same r slot process status q is apart k i in
+        let found : least_from (λ k. is_ended_as q (new.procs k)) 0 16 ≡ least_from (λ k. is_ended_as q (r.procs k)) 0 16 = ap (λ (t : ℕ → Bool). least_from t 0 16) tests in
+        let test : (q == process.pid) ≡ false = other_test q process.pid apart in
+        rw test (ap (ended_in new (updated ps process.pid None)) found
+            ∙ child_in r slot process status q ps new (least_from (λ k. is_ended_as q (r.procs k)) 0 16) refl is refl) ]
+
+-- the records of the ending, as the state of the Unix
+pub ended_unix : (r : Records) (head : HeadRec) (slot : ℕ) (process : ProcRec) (status trap : ℕ) (words : WordMap) (tapes : ℕ → List ℕ) (context : Context) (steps traps : ℕ) (p : Process)
+    → AreSound r → r.head ≡ Some head → IsIn r slot process → IsStatus status → IsOf context process.pid
+    → (unix_of r words tapes context steps traps).processes process.pid ≡ Some p
+    → unix_of (ended_records r head slot process status trap) words tapes InKernel (steps + 1) (traps + 1)
+      ≡ ended_as (trapped (unix_of r words tapes context steps traps) process.pid) process.pid p status
+unfolding unix_of trapped ended_as processes_of
+ended_unix r head slot process status trap words tapes context steps traps p sound is_head is word of held =
+    let new = ended_records r head slot process status trap in
+    let ps = processes_of r words context in
+    let processes : process_at new words ≡ updated ps process.pid None =
+        λ i q. processes_now r head slot process status trap words context q sound is_head is word of i in
+    let parent : p.parent ≡ process.parent = parent_is r words context slot process p sound is of held in
+    let next : head.next ≡ next_by r.head = sym (ap next_by is_head) in
+    let children : ended_of new (process_at new words)
+            ≡ (λ q. if q == process.pid then child_of (is_some (updated ps process.pid None p.parent)) p.parent status else unless_child_of process.pid (ended_of r ps q)) =
+        ap (ended_of new) processes ∙ (λ i q. (children_now r head slot process status trap ps q sound.numbered is
+            ∙ ap (λ (own : ℕ). if q == process.pid then child_of (is_some (updated ps process.pid None own)) own status else unless_child_of process.pid (ended_of r ps q)) (sym parent)) i) in
+    let ds = λ (number : ℕ). description_by (r.descs number) in
+    let descriptions : in_use (process_at new words) ds ≡ in_use (updated ps process.pid None) (in_use ps ds) =
+        ap (λ (live : ℕ → Option Process). in_use live ds) processes ∙ (λ i number. in_use_now ps process.pid ds number i) in
+    λ i. record {
+      processes = processes i;
+      ended = children i;
+      descriptions = descriptions i;
+      files = λ _. None;
+      terminals = λ tty. terminal_by (tapes tty) (r.terms tty);
+      exits = λ q. status_now r.exits process.pid status q i;
+      next_pid = next i;
+      last_pid = process.pid;
+      steps = steps + 1;
+      traps = traps + 1;
+      position = AtKernel;
+    }

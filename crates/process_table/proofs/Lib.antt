@@ -10,3 +10,6 @@ pub mod Kept
 pub mod Endings
 pub mod EndedSound
 pub mod EndedUnix
+pub mod Changes
+pub mod ChangedUnix
+pub mod Saving
