@@ -2,7 +2,7 @@
 ghost use Rattle.std.specs.Prelude.{◌≡◌, ◌<◌, true, false, length, IsTrue, IsErr, ◌↔◌, OnOk, OnErr};
 ghost use Rattle.ow_plant.specs.State.{now_of, refusal, refuses, tty_of, with_put};
 ghost use Rattle.record_layouts.specs.Reading.{FitsMap};
-ghost use Rattle.intent_store.specs.Live.{gate_held, map_of};
+ghost use Rattle.intent_store.specs.Live.{map_of};
 
 use crate::commit::commit;
 use crate::frames::{copy_frame, zero_frame};
@@ -181,10 +181,11 @@ impl RecordView for Live<'_> {
 
 #[tactic(auto, unfolding(record_layouts::specs::Reading::records_of, record_layouts::specs::Reading::records_in))]
 impl Writer for Live<'_> {
-    ghost use Rattle.std.specs.Prelude.{[]};
+    ghost use Rattle.std.specs.Prelude.{◌⊎◌, []};
+    ghost use Rattle.record_layouts.specs.Held.{IsCommittable, patched};
     ghost use Rattle.record_layouts.specs.declared.intent.Gate.TheVariants.{Closed};
     ghost use Rattle.ow_plant.specs.State.{PlantState};
-    ghost use Rattle.intent_store.specs.Live.{IsStanding, gate_held, rest_of};
+    ghost use Rattle.intent_store.specs.Live.{IsStanding, gate_held, held_of, records_held, rest_of};
 
     ghost Rest = { PlantState };
 
@@ -206,7 +207,21 @@ impl Writer for Live<'_> {
         self.plant.now().sectors
     }
 
-    fn commit(&mut self, patch: &Patch) -> Result<(), Panicked> {
+    /// Sets the records of a patch, all of them or, at `Panicked`, all or none. An intent that is open before is carried
+    /// out and closed first; after `Ok` none is open.
+    fn commit(&mut self, patch: &Patch) -> Result<(), Panicked>
+        requires able { self.old.plant.now.refused ≡ false }
+        requires stands { IsStanding self.old.plant.now }
+        requires patch { IsCommittable (records_held self.old.plant.now) patch.now.items.items }
+        ensures ok { OnOk result (held_of self.new.plant.now ≡ patched patch.now.items.items (held_of self.old.plant.now)) }
+        ensures shut { OnOk result (gate_held self.new.plant.now ≡ Closed) }
+        ensures err { OnErr result ((held_of self.new.plant.now ≡ held_of self.old.plant.now)
+            ⊎ (held_of self.new.plant.now ≡ patched patch.now.items.items (held_of self.old.plant.now))) }
+        ensures stays { OnOk result (self.new.plant.now.refused ≡ false) }
+        ensures cause { OnErr result (self.new.plant.now.refused ≡ true) }
+        ensures still_stands { IsStanding self.new.plant.now }
+        ensures place { self.new.plant.ghost_name ≡ self.old.plant.ghost_name }
+    {
         let base = self.map().area_base;
         commit(self, base, patch)
     }
