@@ -117,7 +117,7 @@ module _ (some other : Area) (same : (number : ℕ) → 16 ≤ number → number
       ]
 
 -- what lies in words that may change may change
-within_part : (low high begin end number : ℕ) → is_within low high begin end ≡ true → lies_in begin end number ≡ true → is_within low high number (number + 1) ≡ true
+pub within_part : (low high begin end number : ℕ) → is_within low high begin end ≡ true → lies_in begin end number ≡ true → is_within low high number (number + 1) ≡ true
 within_part low high begin end number within lies = grind (arith, nat_tests)
 
 pub lies_beside : (begin end number : ℕ) → may_change begin end ≡ true → may_change number (number + 1) ≡ false → lies_in begin end number ≡ false

@@ -2,6 +2,8 @@
 -- with lists are written, and on the ranges of an intent.
 pub mod Records
 pub mod Reading
+pub mod Seam
+pub mod Stores
 pub mod Parts
 pub mod Processes
 pub mod Laying

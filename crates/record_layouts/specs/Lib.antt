@@ -28,3 +28,4 @@ pub mod Reading
 pub mod Tests
 pub mod Fitting
 pub mod Values
+pub mod Seam

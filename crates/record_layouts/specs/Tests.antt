@@ -67,8 +67,7 @@ pub record IsSealedRecord (count first : ℕ) (words : List ℕ) : Type 0 where
 pub decides_sealed_record : (count first : ℕ) (words : List ℕ) → Decides (is_sealed_record count first words) (IsSealedRecord count first words)
 unfolding is_sealed_record
 decides_sealed_record count first words =
-    let are = decides_words words in
-    (
+    let are = decides_words words in (
       λ yes. record { long = grind (arith, nat_tests); all_words = grind (arith, nat_tests, are.0); kind = grind (arith, nat_tests); seal = grind (arith, nat_tests) },
       λ is. grind (arith, nat_tests, are.1 is.all_words, is.long, is.kind, is.seal),
     )

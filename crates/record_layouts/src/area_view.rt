@@ -21,10 +21,12 @@ use ow_base::WordSource;
 
 // The frame of the words that name the owners of frames, and the first of those words that names one of a cache entry.
 const OWNERS: u32 = 10 * FRAME;
+
 const CACHE_OWNERS: u32 = OWNERS + 960;
 
 // The first word of the page tables, of which each slot has so many.
 const TABLES: u32 = 16 * FRAME;
+
 const TABLES_OF_SLOT: u32 = 3;
 
 /// The records of the area that a map names, as memory has them, with a valid open intent laid over the area.
@@ -175,3 +177,6 @@ impl<W: WordSource> RecordView for AreaView<'_, W> {
         self.map.pool_base
     }
 }
+
+#[cfg(test)]
+mod tests;
