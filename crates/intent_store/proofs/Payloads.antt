@@ -10,7 +10,7 @@ use Rattle.record_layouts.specs.declared.places.RecordId.TheVariants as id
 use Rattle.record_layouts.specs.Overlay.{IsAllowed, WordRange, begin_of, end_of, may_change, payload_of}
 use Rattle.record_layouts.specs.Patch.{IsOfKind, IsPatchItem}
 use Rattle.record_layouts.specs.Places.{IsRecordId, first_word, length_of}
-use Rattle.intent_store.specs.Payloads.{AreSpelled, IsPayload, IsRecordOf, Sets, SpellsMore}
+use Rattle.intent_store.specs.Payloads.{AreSpelled, IsPayload, IsSpelled, Spells, SpellsMore}
 
 pub payload_of-push : (ranges : List WordRange) (range : WordRange) → payload_of (ranges ++ range ∷ []) ≡ payload_of ranges ++ payload_of (range ∷ [])
 unfolding payload_of
@@ -18,7 +18,7 @@ payload_of-push [] range = refl
 payload_of-push (one ∷ ranges) range =
     ap (λ ws. one.frame ∷ one.first ∷ length one.words ∷ ws) (ap (λ ws. one.words ++ ws) (payload_of-push ranges range) ∙ sym (append_assoc one.words (payload_of ranges) (payload_of (range ∷ []))))
 
-pub are_spelled-push : (ranges : List WordRange) (items : List PatchItem) (range : WordRange) (item : PatchItem) → AreSpelled ranges items → Sets range item
+pub are_spelled-push : (ranges : List WordRange) (items : List PatchItem) (range : WordRange) (item : PatchItem) → AreSpelled ranges items → Spells range item
     → AreSpelled (ranges ++ range ∷ []) (items ++ item ∷ [])
 are_spelled-push [] [] range item are sets = (sets, tt)
 are_spelled-push [] (i ∷ items) range item are sets = absurd are
@@ -32,7 +32,7 @@ allowed_by (r ∷ ranges) [] are = absurd are
 allowed_by (r ∷ ranges) (i ∷ items) are = All-cons IsAllowed r ranges are.0.allowed (allowed_by ranges items are.1)
 
 -- a record has the words of its kind
-record_length : (id : RecordId) (rec : AnyRec) (words : List ℕ) → IsOfKind id rec → IsRecordOf words rec → length words ≡ length_of id
+record_length : (id : RecordId) (rec : AnyRec) (words : List ℕ) → IsOfKind id rec → IsSpelled rec words → length words ≡ length_of id
 record_length id.Head (any.Head rec) words kind is = is.long
 record_length (id.Proc slot) (any.Proc rec) words kind is = is.long
 record_length (id.Sig slot) (any.Sig rec) words kind is = is.long
@@ -44,12 +44,13 @@ record_length (id.Row slot) (any.Row rec) words kind is = is.long
 record_length (id.Exit slot) (any.Exit rec) words kind is = is.long
 record_length other rec words kind is = absurd kind
 
-pub sets_item : (item : PatchItem) (frame first : ℕ) (words : List ℕ) → IsPatchItem item → IsRecordOf words item.rec → 1024 * frame + first ≡ first_word item.id → first < 1024
-    → may_change (first_word item.id) (first_word item.id + length_of item.id) ≡ true → Sets (record { frame = frame; first = first; words = words }) item
+pub sets_item : (item : PatchItem) (frame first : ℕ) (words : List ℕ) → IsPatchItem item → IsSpelled item.rec words → 1024 * frame + first ≡ first_word item.id → first < 1024
+    → may_change (first_word item.id) (first_word item.id + length_of item.id) ≡ true → Spells (record { frame = frame; first = first; words = words }) item
 sets_item item frame first words of_patch is place low changes = record {
-  place = place;
-  words = is;
+  begin = place;
+  long = record_length item.id item.rec words of_patch.kind is;
   allowed = record { placed = low; changes = rw (place, record_length item.id item.rec words of_patch.kind is) changes };
+  spelled = is;
 }
 
 -- the words of a range stand behind what was there

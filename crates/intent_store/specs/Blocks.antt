@@ -60,4 +60,4 @@ pub record IsSeenAs (old new : Area) : Type 0 where
 
 -- the records of a patch are set
 pub record IsSeenSet (items : List PatchItem) (old new : Area) : Type 0 where
-  pub set : (map : MemoryMap) → seen map new ≡ with_items (seen map old) items
+  pub set : (map : MemoryMap) → map.user_frames ≤ 384 → seen map new ≡ with_items (seen map old) items

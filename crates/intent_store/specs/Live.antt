@@ -49,6 +49,10 @@ pub record IsStanding (s : PlantState) : Type 0 where
   pub armed : IsArmed s
   pub decodes : is_some (records_held s).head ≡ true
 
+-- what it holds; there is no disk yet
+abbrev pub held_of : PlantState → Held PlantState
+held_of s = record { records = records_held s; contents = beside (records_held s).map.area_base (words_of s.memory); disk = []; rest = rest_of s }
+
 -- what the intent block of the area says
 abbrev pub gate_held : PlantState → Gate
 gate_held s = gate_of (area_at (words_of s.memory) (map_of s).area_base)

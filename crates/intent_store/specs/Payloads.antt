@@ -1,5 +1,6 @@
 -- How an intent spells the records that it sets.
 use Rattle.std.specs.Prelude.{◌≡◌, ℕ, ◌+◌, ◌*◌, ◌≤◌, List, [], ◌∷◌, ◌++◌, length, All}
+use Rattle.std.specs.List.{AllZip}
 use Rattle.record_layouts.specs.declared.patch.AnyRec.{AnyRec}
 use Rattle.record_layouts.specs.declared.patch.AnyRec.TheVariants as any
 use Rattle.record_layouts.specs.declared.patch.PatchItem.{PatchItem}
@@ -12,32 +13,31 @@ use Rattle.record_layouts.specs.Cache.{IsCache}
 use Rattle.record_layouts.specs.Term.{IsTerm}
 use Rattle.record_layouts.specs.Row.{IsRow}
 use Rattle.record_layouts.specs.Exit.{IsExit}
-use Rattle.record_layouts.specs.Places.{first_word}
+use Rattle.record_layouts.specs.Places.{first_word, length_of}
 use Rattle.record_layouts.specs.Overlay.{IsAllowed, WordRange, begin_of, payload_of}
 
 -- the words are the record of this value
-abbrev pub IsRecordOf : (words : List ℕ) → AnyRec → Type 0
-IsRecordOf words (any.Head head) = IsHead words head
-IsRecordOf words (any.Proc process) = IsProc words process
-IsRecordOf words (any.Sig signals) = IsSig words signals
-IsRecordOf words (any.Desc description) = IsDesc words description
-IsRecordOf words (any.File file) = IsFile words file
-IsRecordOf words (any.Cache entry) = IsCache words entry
-IsRecordOf words (any.Term terminal) = IsTerm words terminal
-IsRecordOf words (any.Row row) = IsRow words row
-IsRecordOf words (any.Exit exit) = IsExit words exit
+abbrev pub IsSpelled : AnyRec → (words : List ℕ) → Type 0
+IsSpelled (any.Head head) words = IsHead words head
+IsSpelled (any.Proc process) words = IsProc words process
+IsSpelled (any.Sig signals) words = IsSig words signals
+IsSpelled (any.Desc description) words = IsDesc words description
+IsSpelled (any.File file) words = IsFile words file
+IsSpelled (any.Cache entry) words = IsCache words entry
+IsSpelled (any.Term terminal) words = IsTerm words terminal
+IsSpelled (any.Row row) words = IsRow words row
+IsSpelled (any.Exit exit) words = IsExit words exit
 
--- the range sets a record, in its place
-pub record Sets (range : WordRange) (item : PatchItem) : Type 0 where
-  pub place : begin_of range ≡ first_word item.id
-  pub words : IsRecordOf range.words item.rec
+-- the range has the words of this record, at its place
+pub record Spells (range : WordRange) (item : PatchItem) : Type 0 where
+  pub begin : begin_of range ≡ first_word item.id
+  pub long : length range.words ≡ length_of item.id
   pub allowed : IsAllowed range
+  pub spelled : IsSpelled item.rec range.words
 
--- each range sets one of the records, in their order
+-- one range for each record, in their order
 abbrev pub AreSpelled : List WordRange → List PatchItem → Type 0
-AreSpelled [] [] = Unit {0}
-AreSpelled (range ∷ ranges) (item ∷ items) = Sets range item × AreSpelled ranges items
-AreSpelled ranges items = ⊥
+AreSpelled ranges items = AllZip Spells ranges items
 
 -- the payload spells ranges that set these records
 pub record IsPayload (items : List PatchItem) (payload : List ℕ) : Type 0 where
@@ -49,5 +49,5 @@ pub record IsPayload (items : List PatchItem) (payload : List ℕ) : Type 0 wher
 -- a range that sets a record is added to a payload
 pub record SpellsMore (item : PatchItem) (old new : List ℕ) : Type 0 where
   pub range : WordRange
-  pub sets : Sets range item
+  pub sets : Spells range item
   pub added : new ≡ old ++ payload_of (range ∷ [])

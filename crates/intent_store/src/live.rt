@@ -2,10 +2,11 @@
 ghost use Rattle.std.specs.Prelude.{◌≡◌, ◌<◌, true, false, length, IsTrue, IsErr, ◌↔◌, OnOk, OnErr};
 ghost use Rattle.ow_plant.specs.State.{now_of, refusal, refuses, tty_of, with_put};
 ghost use Rattle.record_layouts.specs.Reading.{FitsMap};
-ghost use Rattle.intent_store.specs.Live.{gate_held, map_of};
+ghost use Rattle.intent_store.specs.Live.{map_of};
 
+use crate::commit::commit;
+use crate::frames::{copy_frame, zero_frame};
 use crate::word_store::WordStore;
-use crate::{commit, frames};
 use ow_base::{AreaId, Now, Panicked, WordSource};
 use ow_plant::Plant;
 use record_layouts::{
@@ -105,5 +106,135 @@ impl WordStore for Live<'_> {
 
     fn store(&mut self, frame: u32, word: u32, value: u32) -> Result<(), Panicked> {
         self.plant.store(frame, word, value)
+    }
+}
+
+impl RecordView for Live<'_> {
+    ghost use Rattle.phys_memory.specs.Memory.{words_of};
+    ghost use Rattle.record_layouts.specs.Values.{are_values};
+    ghost use Rattle.intent_store.specs.Live.{map_of, records_held};
+
+    ghost records = { λ l. records_held l.plant.now };
+
+    ghost values = { λ l. are_values (map_of l.plant.now) (words_of l.plant.now.memory) };
+
+    fn head(&self) -> Option<HeadRec> {
+        self.view().head()
+    }
+
+    fn proc(&self, slot: u32) -> Option<ProcRec> {
+        self.view().proc(slot)
+    }
+
+    fn sig(&self, slot: u32) -> Option<SigRec> {
+        self.view().sig(slot)
+    }
+
+    fn desc(&self, i: u32) -> Option<DescRec> {
+        self.view().desc(i)
+    }
+
+    fn file(&self, i: u32) -> Option<FileRec> {
+        self.view().file(i)
+    }
+
+    fn cache(&self, i: u32) -> Option<CacheRec> {
+        self.view().cache(i)
+    }
+
+    fn term(&self, tty: u32) -> Option<TermRec> {
+        self.view().term(tty)
+    }
+
+    fn row(&self, i: u32) -> Option<RowRec> {
+        self.view().row(i)
+    }
+
+    fn exit(&self, pid: u32) -> Option<ExitRec> {
+        self.view().exit(pid)
+    }
+
+    fn owner(&self, frame: u32) -> u32 {
+        self.view().owner(frame)
+    }
+
+    fn cache_owner(&self, i: u32) -> u32 {
+        self.view().cache_owner(i)
+    }
+
+    fn table_word(&self, slot: u32, table: u32, word: u32) -> u32 {
+        self.view().table_word(slot, table, word)
+    }
+
+    fn area_base(&self) -> u32 {
+        self.view().area_base()
+    }
+
+    fn cache_base(&self) -> u32 {
+        self.view().cache_base()
+    }
+
+    fn pool_base(&self) -> u32 {
+        self.view().pool_base()
+    }
+}
+
+#[tactic(auto, unfolding(record_layouts::specs::Reading::records_of, record_layouts::specs::Reading::records_in))]
+impl Writer for Live<'_> {
+    ghost use Rattle.std.specs.Prelude.{◌⊎◌, []};
+    ghost use Rattle.record_layouts.specs.Held.{IsCommittable, patched};
+    ghost use Rattle.record_layouts.specs.declared.intent.Gate.TheVariants.{Closed};
+    ghost use Rattle.ow_plant.specs.State.{PlantState};
+    ghost use Rattle.intent_store.specs.Live.{IsStanding, gate_held, held_of, records_held, rest_of};
+
+    ghost Rest = { PlantState };
+
+    ghost rest = { λ l. rest_of l.plant.now };
+
+    ghost disk = { λ l. [] };
+
+    ghost refused = { λ l. l.plant.now.refused };
+
+    ghost place = { λ l. l.plant.ghost_name };
+
+    ghost Stands = { λ l. IsStanding l.plant.now };
+
+    fn user_frames(&self) -> u32 {
+        self.plant.now().user_frames
+    }
+
+    fn sectors(&self) -> u32 {
+        self.plant.now().sectors
+    }
+
+    /// Sets the records of a patch, all of them or, at `Panicked`, all or none. An intent that is open before is carried
+    /// out and closed first; after `Ok` none is open.
+    fn commit(&mut self, patch: &Patch) -> Result<(), Panicked>
+        requires able { self.old.plant.now.refused ≡ false }
+        requires stands { IsStanding self.old.plant.now }
+        requires patch { IsCommittable (records_held self.old.plant.now) patch.now.items.items }
+        ensures ok { OnOk result (held_of self.new.plant.now ≡ patched patch.now.items.items (held_of self.old.plant.now)) }
+        ensures shut { OnOk result (gate_held self.new.plant.now ≡ Closed) }
+        ensures err { OnErr result ((held_of self.new.plant.now ≡ held_of self.old.plant.now)
+            ⊎ (held_of self.new.plant.now ≡ patched patch.now.items.items (held_of self.old.plant.now))) }
+        ensures stays { OnOk result (self.new.plant.now.refused ≡ false) }
+        ensures cause { OnErr result (self.new.plant.now.refused ≡ true) }
+        ensures still_stands { IsStanding self.new.plant.now }
+        ensures place { self.new.plant.ghost_name ≡ self.old.plant.ghost_name }
+    {
+        let base = self.map().area_base;
+        commit(self, base, patch)
+    }
+
+    fn direct_word(&mut self, frame: u32, word: u32, value: u32) -> Result<(), Panicked> {
+        self.store(frame, word, value)
+    }
+
+    fn copy_frame(&mut self, from: u32, to: u32) -> Result<(), Panicked> {
+        copy_frame(self, from, to)
+    }
+
+    fn zero_frame(&mut self, frame: u32) -> Result<(), Panicked> {
+        zero_frame(self, frame)
     }
 }

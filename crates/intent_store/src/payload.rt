@@ -2,7 +2,7 @@
 ghost use Rattle.std.specs.Prelude.{◌≡◌, ℕ, ◌+◌, ◌≤◌, List, length};
 ghost use Rattle.arrayvec.specs.ArrayVec.{array_vec_len};
 ghost use Rattle.record_layouts.specs.Patch.{FitsAny, IsPatch, IsPatchItem};
-ghost use Rattle.intent_store.specs.Payloads.{IsPayload, IsRecordOf, SpellsMore};
+ghost use Rattle.intent_store.specs.Payloads.{IsPayload, IsSpelled, SpellsMore};
 
 use arrayvec::ArrayVec;
 use record_layouts::{AnyRec, Patch, PatchItem, address, records_lie_apart};
@@ -45,7 +45,7 @@ fn put_range(payload: &mut ArrayVec<u32, MOST_PAYLOAD>, item: &PatchItem)
 // The words of a record of any kind.
 fn words_of(rec: &AnyRec) -> ArrayVec<u32, 128>
     requires { FitsAny rec.now }
-    ensures { IsRecordOf result.items rec.now }
+    ensures { IsSpelled rec.now result.items }
 {
     match rec {
         AnyRec::Head(head) => filled(&head.to_words()),
