@@ -1,0 +1,3 @@
+-- The lemmas of the crate: ranges of bytes of which each is tested, and the bytes that are read.
+pub mod Tested
+pub mod Reading
