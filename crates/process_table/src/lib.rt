@@ -1,0 +1,14 @@
+//! The processes of a kernel: which one is next, and what its record becomes when its slice ends, when a signal goes
+//! to it and when it ends. All is read from a view of records, and what is to be changed is answered as a patch.
+#![tactic(auto)]
+
+mod choice;
+mod patches;
+mod signals;
+mod slots;
+
+pub use choice::{Choice, choose};
+pub use ow_base::{Bank, Now};
+pub use patches::{end_process, save_bank, take_signal};
+pub use record_layouts::{Patch, RecordView};
+pub use slots::{free_slot, next_pid};
