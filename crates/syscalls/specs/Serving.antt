@@ -6,12 +6,12 @@ use Rattle.ow_base.specs.declared.machine.Bank.{Bank}
 use Rattle.record_layouts.specs.declared.desc.DescRec.{DescRec}
 use Rattle.record_layouts.specs.declared.proc.ProcRec.{ProcRec}
 use Rattle.record_layouts.specs.declared.patch.PatchItem.{PatchItem}
-use Rattle.record_layouts.specs.Held.{Records}
+use Rattle.record_layouts.specs.Held.{Records, AreComplete}
 use Rattle.record_layouts.specs.Head.{FitsHead}
 use Rattle.record_layouts.specs.Proc.{FitsProc}
-use Rattle.record_layouts.specs.Pages.{is_live, pages_of}
+use Rattle.record_layouts.specs.Pages.{is_live, is_mapped, pages_of}
 use Rattle.record_layouts.specs.Patch.{IsPatch}
-use Rattle.record_layouts.specs.Sound.{AreSound}
+use Rattle.record_layouts.specs.Sound.{IsTransfer}
 use Rattle.process_table.specs.Patches.{bank_of, saved_process}
 use Rattle.syscalls.specs.declared.caller.Caller.{Caller}
 use Rattle.syscalls.specs.declared.service.Service.{Service}
@@ -45,9 +45,9 @@ IsPieceOf r words slot trap s =
 
 -- 1 to 16 bytes are written, on a terminal that there is, and the process in the slot can read them
 pub record IsWritable (r : Records) (words : WordMap) (slot tty from len : ℕ) : Type 0 where
-  pub tty : tty < 2
+  pub terminal : tty < 2
   pub some : 1 ≤ len
-  pub piece : len ≤ 16
+  pub most : len ≤ 16
   pub readable : is_readable (pages_in r words slot) from len ≡ true
 
 -- the service can be done: its patch can be committed, and its bytes can be read and written
@@ -59,20 +59,22 @@ IsDoable r words slot (service.TtyWrite tty from len patch) = IsPatch patch.item
 pub record AreOnTerminals (r : Records) : Type 0 where
   pub each : (i : ℕ) → IfSome (r.descs i) (λ description. description.object ≢ 1)
 
--- A process makes calls or goes on in them where the records are sound. It makes one outside a call, and goes on in a
--- write.
+-- a call in a slot can be served: every record decodes, no description is on a file, and each page has a frame
 pub record CanCall (r : Records) (slot : ℕ) : Type 0 where
-  pub sound : AreSound r
-  pub on_terminals : AreOnTerminals r
   pub within : slot < 16
+  pub complete : AreComplete r
+  pub on_terminals : AreOnTerminals r
+  pub mapped : IfSome (r.procs slot) (λ process. is_mapped r slot process ≡ true)
 
+-- the process is live and outside a call
 abbrev pub IsOutside : Option ProcRec → Type 0
 IsOutside (Some process) = process.state ≡ 1
 IsOutside None = ⊥
 
-abbrev pub IsInWrite : Option ProcRec → Type 0
-IsInWrite (Some process) = (process.state ≡ 2) × (process.call ≡ 2)
-IsInWrite None = ⊥
+-- the process is live and in a write
+abbrev pub IsInWrite : Records → Option ProcRec → Type 0
+IsInWrite r (Some process) = (process.state ≡ 2) × (process.call ≡ 2) × ((description : DescRec) × IsTransfer r process 2 description)
+IsInWrite r None = ⊥
 
 -- the record is this one but for registers and pc
 abbrev pub IsWithBank : ProcRec → Option ProcRec → Type 0

@@ -1,8 +1,10 @@
 //! The calls, one after the other, and the pieces of a write.
 
-ghost use Rattle.std.specs.Prelude.{◌≡◌, ◌≢◌, ◌+◌, ◌<◌, ◌≤◌, true, false, Some, IfSome, IfNone};
+ghost use Rattle.std.specs.Prelude.{◌≡◌, ◌≢◌, ◌+◌, ◌%◌, ◌<◌, ◌≤◌, true, false, Some, IfSome, IfNone};
 ghost use Rattle.ow_base.specs.Pages.{is_readable};
 ghost use Rattle.record_layouts.specs.Desc.{FitsDesc};
+ghost use Rattle.record_layouts.specs.Patch.{IsPatch};
+ghost use Rattle.process_table.specs.Patches.{ended_items};
 ghost use Rattle.process_table.specs.Slots.{is_live_one};
 ghost use Rattle.syscalls.specs.Planned.{argument_of, named, pages_in, planned_number, planned_tty, planned_write};
 ghost use Rattle.syscalls.specs.Serving.{CanCall, IsCallOf, IsCallerIn, IsDoable, IsInWrite, IsOutside, IsPieceOf, plan_of};
@@ -12,7 +14,7 @@ use crate::service::Service;
 use address_space::user_bytes;
 use ow_base::{Bank, Efault, Errno, Now};
 use process_table::end_process;
-use record_layouts::{DescRec, ProcRec, RecordView};
+use record_layouts::{DescRec, Patch, ProcRec, RecordView};
 
 // The numbers of the other calls, and the register that holds the number.
 const EXIT: u32 = 1;
@@ -52,7 +54,18 @@ fn look<V: RecordView>(view: &V, slot: u32, fd: u32) -> Option<DescRec>
     }
 }
 
+// The terminal's description that the process in the slot has in a descriptor, as `look` gives it.
+fn target<V: RecordView>(view: &V, slot: u32, fd: u32) -> Option<DescRec>
+    requires can { CanCall (V.records view.now) slot }
+    requires live { is_live_one ((V.records view.now).procs slot) ≡ true }
+    ensures named { IfSome ((V.records view.now).procs slot) (λ process. result ≡ named (V.records view.now) process.descs fd) }
+    ensures terminal { IfSome result (λ description. description.index < 2) }
+{
+    look(view, slot, fd)
+}
+
 // The address of the next bytes of a write, so many: `None` exactly where one of them cannot be read.
+#[tactic(auto, using(crate::proofs::Behind::unreadable_behind))]
 fn next_bytes<V: RecordView>(view: &V, caller: &Caller, done: u32, len: u32) -> Option<u32>
     requires caller { IsCallerIn (V.records view.now) caller.now }
     requires some { 1 ≤ len }
@@ -62,7 +75,9 @@ fn next_bytes<V: RecordView>(view: &V, caller: &Caller, done: u32, len: u32) -> 
     ensures none { IfNone result
         (is_readable (pages_in (V.records view.now) (V.words view.now) caller.now.slot) (argument_of caller.now.process 1 + done) len ≡ false) }
 {
-    let from = caller.argument(1).checked_add(done)?;
+    let Some(from) = caller.argument(1).checked_add(done) else {
+        return None;
+    };
     let mut bytes = [0; PIECE as usize];
     match user_bytes(view, caller.slot, from, &mut bytes[..len as usize]) {
         Ok(()) => Some(from),
@@ -100,7 +115,7 @@ fn write<V: RecordView>(view: &V, caller: &Caller) -> Service
     ensures plan { plan_of result ≡ planned_write (V.records view.now) (pages_in (V.records view.now) (V.words view.now) caller.now.slot) caller.now }
     ensures doable { IsDoable (V.records view.now) (V.words view.now) caller.now.slot result }
 {
-    let Some(description) = look(view, caller.slot, caller.argument(0)) else {
+    let Some(description) = target(view, caller.slot, caller.argument(0)) else {
         return Service::Once {
             patch: caller.fails(EBADF),
         };
@@ -124,6 +139,16 @@ fn write<V: RecordView>(view: &V, caller: &Caller) -> Service
     piece(view, caller, description.index, 0)
 }
 
+// The call exit.
+#[tactic(auto, unfolding(process_table::specs::Patches::ended_items))]
+fn exit<V: RecordView>(view: &V, caller: &Caller) -> Patch
+    requires { IsCallerIn (V.records view.now) caller.now }
+    ensures items { result.items.items ≡ ended_items caller.now.head caller.now.slot caller.now.process (argument_of caller.now.process 0 % 256) caller.now.trap }
+    ensures patch { IsPatch result.items.items }
+{
+    end_process(view, caller.slot, caller.argument(0) % 256, caller.trap)
+}
+
 // The call with this number.
 #[tactic(auto, unfolding(crate::specs::Planned::planned_number))]
 fn serve<V: RecordView>(view: &V, caller: &Caller, number: u32) -> Service
@@ -132,7 +157,7 @@ fn serve<V: RecordView>(view: &V, caller: &Caller, number: u32) -> Service
     ensures doable { IsDoable (V.records view.now) (V.words view.now) caller.now.slot result }
 {
     let patch = match number {
-        EXIT => end_process(view, caller.slot, caller.argument(0) % 256, caller.trap),
+        EXIT => exit(view, caller),
         WRITE => return write(view, caller),
         GETPID => caller.answers(caller.process.pid),
         YIELD => caller.goes_on(),
@@ -149,7 +174,8 @@ fn serve<V: RecordView>(view: &V, caller: &Caller, number: u32) -> Service
 /// EINVAL where the count is above 0x7fffffff, then 0 where it is 0; else it makes its first piece, of at most 16
 /// bytes, which answers EFAULT where a byte of it cannot be read. Errors change nothing else.
 ///
-/// The records are sound, and no description is on a file: files are not built, and the condition goes when they are.
+/// Every record decodes, each page of the process has a frame, and no description is on a file: files are not built, and
+/// this condition goes when they are.
 #[tactic(auto, unfolding(crate::specs::Planned::planned_call))]
 pub fn enter_call<V: RecordView>(view: &V, slot: u32, bank: &Bank, now: &Now) -> Service
     requires can { CanCall (V.records view.now) slot }
@@ -176,11 +202,11 @@ pub fn enter_call<V: RecordView>(view: &V, slot: u32, bank: &Bank, now: &Now) ->
 /// It takes at most 16 bytes. The call answers its count with the last piece, and the bytes done before where a byte of
 /// the piece cannot be read; else the process stays in the call.
 ///
-/// The records are sound, and no description is on a file, as in `enter_call`.
+/// Every record decodes, each page has a frame, and no description is on a file, as in `enter_call`.
 #[tactic(auto, unfolding(crate::specs::Planned::planned_piece))]
 pub fn next_piece<V: RecordView>(view: &V, slot: u32, now: &Now) -> Service
     requires can { CanCall (V.records view.now) slot }
-    requires inside { IsInWrite ((V.records view.now).procs slot) }
+    requires inside { IsInWrite (V.records view.now) ((V.records view.now).procs slot) }
     ensures piece { IsPieceOf (V.records view.now) (V.words view.now) slot now.now.trap result }
     ensures doable { IsDoable (V.records view.now) (V.words view.now) slot result }
 {
@@ -190,9 +216,6 @@ pub fn next_piece<V: RecordView>(view: &V, slot: u32, now: &Now) -> Service
         head: view.head().unwrap(),
         trap: now.trap,
     };
-    let description = look(view, slot, caller.argument(0)).unwrap();
+    let description = target(view, slot, caller.argument(0)).unwrap();
     piece(view, &caller, description.index, caller.process.done)
 }
-
-#[cfg(test)]
-mod tests;
