@@ -10,3 +10,6 @@ pub use calls::{enter_call, next_piece};
 pub use ow_base::{Bank, Now};
 pub use record_layouts::{Patch, RecordView};
 pub use service::Service;
+
+#[cfg(test)]
+mod tests;
