@@ -18,7 +18,7 @@ zeros count k from to = get_or-replicate count k 0 0 to
 blank : IsBlankBank blank_bank
 blank = record { regs = zeros 31; pc = refl }
 
-over : (process : ProcRec) (status : ℕ) → IsOver (ended_process process status)
+pub over : (process : ProcRec) (status : ℕ) → IsOver (ended_process process status)
 over process status = record {
   call = refl; done = refl; code_pages = refl; data_pages = refl; brk = refl; procedure = refl; mask = refl; flags = refl;
   descs = zeros 8; regs = zeros 31; pc = refl; handler_save = blank; crash_save = blank;

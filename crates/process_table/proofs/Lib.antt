@@ -4,3 +4,8 @@ pub mod Holding
 pub mod Pending
 pub mod Working
 pub mod Ended
+pub mod Seats
+pub mod Regions
+pub mod Kept
+pub mod Endings
+pub mod EndedSound

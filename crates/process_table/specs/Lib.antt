@@ -4,3 +4,5 @@ pub mod Least
 pub mod Slots
 pub mod Choosing
 pub mod Patches
+pub mod Small
+pub mod SmallValues

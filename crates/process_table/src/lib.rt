@@ -6,6 +6,8 @@ mod choice;
 mod patches;
 mod signals;
 mod slots;
+#[cfg(test)]
+mod tests;
 
 pub use choice::{Choice, choose};
 pub use ow_base::{Bank, Now};

@@ -1,7 +1,6 @@
 //! What is set when a trap of a process ends.
 ghost use Rattle.std.specs.Prelude.{◌≡◌, ◌+◌, ◌<◌, ◌≤◌, IfSome, true, is_some, [], ◌∷◌};
 ghost use Rattle.record_layouts.specs.Head.{FitsHead};
-ghost use Rattle.record_layouts.specs.Held.{AreComplete};
 ghost use Rattle.record_layouts.specs.Pages.{is_live};
 ghost use Rattle.record_layouts.specs.Patch.{IsPatch};
 ghost use Rattle.record_layouts.specs.Proc.{FitsProc};
@@ -150,7 +149,7 @@ fn signalled(process: &ProcRec, signal: u32, handler: u32) -> ProcRec
 /// What ends the live process of a slot with a status word: the trap `trap` is done and its process the last one that
 /// had one, the process record keeps pid, parent and status alone, and the exit record has the status.
 pub fn end_process<V: RecordView>(view: &V, slot: u32, status: u32, trap: u32) -> Patch
-    requires complete { AreComplete (V.records view.now) }
+    requires head { is_some (V.records view.now).head ≡ true }
     requires slot { slot < 16 }
     requires live { is_live_one ((V.records view.now).procs slot) ≡ true }
     requires status { IsStatus status }
@@ -166,7 +165,7 @@ pub fn end_process<V: RecordView>(view: &V, slot: u32, status: u32, trap: u32) -
 /// and is then the last one that had a trap.
 #[tactic(auto, unfolding(crate::specs::Patches::saved_items))]
 pub fn save_bank<V: RecordView>(view: &V, slot: u32, bank: &Bank, trap: u32) -> Patch
-    requires complete { AreComplete (V.records view.now) }
+    requires head { is_some (V.records view.now).head ≡ true }
     requires slot { slot < 16 }
     requires live { is_live_one ((V.records view.now).procs slot) ≡ true }
     ensures items { IsSaving (V.records view.now) slot bank.now trap result.items.items }
@@ -187,7 +186,7 @@ pub fn save_bank<V: RecordView>(view: &V, slot: u32, bank: &Bank, trap: u32) -> 
 /// one.
 #[tactic(auto, unfolding(crate::specs::Patches::signal_items))]
 pub fn take_signal<V: RecordView>(view: &V, slot: u32, trap: u32) -> Patch
-    requires complete { AreComplete (V.records view.now) }
+    requires head { is_some (V.records view.now).head ≡ true }
     requires slot { slot < 16 }
     requires live { is_live_one ((V.records view.now).procs slot) ≡ true }
     requires signal { IfSome ((V.records view.now).procs slot) (λ process. is_some (signal_by process ((V.records view.now).sigs slot)) ≡ true) }

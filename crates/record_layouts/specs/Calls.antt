@@ -31,7 +31,7 @@ answered u pid p answer = with_process u pid (record p {
 unfoldable pub stays_in : Unix → (pid : ℕ) → Process → (number done : ℕ) → Unix
 stays_in u pid p number done = with_process u pid (record p { call = In number done })
 
--- the ended children after a process ends: it becomes one where its parent is live, and its own vanish
+-- the ended children after a process ends: it becomes one where its parent is live then, and its own vanish
 abbrev pub child_of : (is_parent_live : Bool) → (parent status : ℕ) → Option EndedChild
 child_of true parent status = Some (record { parent = parent; status = status })
 child_of false parent status = None
@@ -46,7 +46,7 @@ ended_as u pid p status = record u {
   processes = updated u.processes pid None;
   descriptions = in_use (updated u.processes pid None) u.descriptions;
   exits = updated u.exits pid (Some status);
-  ended = λ q. if q == pid then child_of (is_some (u.processes p.parent)) p.parent status else unless_child_of pid (u.ended q);
+  ended = λ q. if q == pid then child_of (is_some (updated u.processes pid None p.parent)) p.parent status else unless_child_of pid (u.ended q);
 }
 
 -- the description that a descriptor of a process names
