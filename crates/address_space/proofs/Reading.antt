@@ -28,7 +28,7 @@ bytes_all pages [] address each = refl
 bytes_all pages (b ∷ bs) address each =
     let here : b ≡ pages.bytes address = rw add-zero at (each 0 (omega arith)) in
     let behind : bs ≡ bytes_at pages (address + 1) (length bs) = bytes_all pages bs (address + 1) (λ k below.
-        let place : address + suc k ≡ (address + 1) + k = omega arith in rw place at (each (suc k) (omega arith))) in
+    let place : address + suc k ≡ (address + 1) + k = omega arith in rw place at (each (suc k) (omega arith))) in
     rw here (ap (λ rest. pages.bytes address ∷ rest) behind)
 
 module _ (pages : Pages) where

@@ -120,12 +120,7 @@ fn is_range_of_values<V: RecordView>(
 }
 
 // The frame of a page of a slot that has this process.
-fn frame_in<V: RecordView>(
-    view: &V,
-    slot: u32,
-    process: &Option<ProcRec>,
-    page: u32,
-) -> Option<u32>
+fn frame_in<V: RecordView>(view: &V, slot: u32, process: &Option<ProcRec>, page: u32) -> Option<u32>
     requires slot { slot < 16 }
     requires page { page < 2 ^ 20 }
     requires fits { IfSome process.now FitsProc }
@@ -139,12 +134,7 @@ fn frame_in<V: RecordView>(
 
 // Whether a page of a slot that has this process is one of values and has a frame.
 #[tactic(auto, unfolding(frame_table::specs::Maps::map_of))]
-fn is_of_values<V: RecordView>(
-    view: &V,
-    slot: u32,
-    process: &Option<ProcRec>,
-    page: u32,
-) -> bool
+fn is_of_values<V: RecordView>(view: &V, slot: u32, process: &Option<ProcRec>, page: u32) -> bool
     requires slot { slot < 16 }
     requires page { page < 2 ^ 20 }
     requires fits { IfSome process.now FitsProc }

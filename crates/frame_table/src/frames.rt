@@ -44,12 +44,7 @@ pub fn page_frame<V: RecordView>(view: &V, slot: u32, page: u32) -> Option<u32>
 
 /// The frame of a page as `page_frame` tells it, for a caller that has read the record of the slot.
 #[tactic(auto, unfolding(record_layouts::specs::Pages::frame_of))]
-pub fn frame_of_page<V: RecordView>(
-    view: &V,
-    slot: u32,
-    rec: &ProcRec,
-    page: u32,
-) -> Option<u32>
+pub fn frame_of_page<V: RecordView>(view: &V, slot: u32, rec: &ProcRec, page: u32) -> Option<u32>
     requires slot { slot < 16 }
     requires fits { FitsProc rec.now }
     requires page { page < 2 ^ 20 }

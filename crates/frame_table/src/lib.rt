@@ -6,7 +6,14 @@ mod laws;
 mod regions;
 
 pub use frames::{claim_word, frame_of_page, page_frame};
-pub use laws::{frames_lie_apart, mapped_pages_have_frames, pages_are_counted, tables_lead_to_pages};
+pub use laws::{
+    frames_lie_apart, mapped_pages_have_frames, pages_are_counted, tables_lead_to_pages,
+};
 pub use ow_base::Rights;
 pub use record_layouts::{ProcRec, RecordView};
 pub use regions::{pages, region};
+
+#[cfg(test)]
+mod fake_view;
+#[cfg(test)]
+mod tests;

@@ -15,6 +15,7 @@ const CODE_START: u32 = 16;
 
 // The first page of the stack, and how many pages it has.
 const STACK_START: u32 = 0x7_fffc;
+
 const STACK_PAGES: u32 = 4;
 
 // The process goes on: it is outside a call or in one.
@@ -64,5 +65,9 @@ pub fn region(rec: &ProcRec, page: u32) -> Option<Rights>
     }
     let is_of_values = (values_start..values_end).contains(&page)
         || (STACK_START..STACK_START + STACK_PAGES).contains(&page);
-    if is_of_values { Some(Rights::Values) } else { None }
+    if is_of_values {
+        Some(Rights::Values)
+    } else {
+        None
+    }
 }

@@ -18,9 +18,11 @@ returns-then-not-is_of_values g c =
 pub loop-done-preserved : goal.loop-done-preserved
 loop-done-preserved g c =
     let place : c.in-Some.place ≡ c.args.addr + c.loop-done.done = omega (arith, c.in-Some.ensures) in
-    let found = rw place at (sym c.is_of_values.ensures ∙ c.if-not-is_of_values.false) in
-    (omega arith, written_more (g.V.RecordView.records c.args.view.now) (g.V.WordSource.words c.args.view.now) c.args.slot c.args.process.now c.requires.read
-    c.args.addr c.loop-done.done (c.loop-done.done + c.min-done.result) c.loop-done.invariant.1 found (omega arith))
+    let found = rw place at (sym c.is_of_values.ensures ∙ c.if-not-is_of_values.false) in (
+      omega arith,
+      written_more (g.V.RecordView.records c.args.view.now) (g.V.WordSource.words c.args.view.now) c.args.slot c.args.process.now c.requires.read
+          c.args.addr c.loop-done.done (c.loop-done.done + c.min-done.result) c.loop-done.invariant.1 found (omega arith),
+    )
 
 pub returns : goal.returns
 returns g c = sym (writable_all _ c.args.addr c.args.n (λ k below. c.loop-done.invariant.1 k (omega arith)))

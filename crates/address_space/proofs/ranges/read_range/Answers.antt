@@ -23,10 +23,12 @@ pub loop-done-preserved : goal.loop-done-preserved
 loop-done-preserved g c =
     let place : c.in-Some.place ≡ c.args.addr + c.loop-done.done = omega (arith, c.in-Some.ensures) in
     let found = rw place at (sym c.frame_in.ensures ∙ c.in-Some-frame_in.is) in
-    let long : length c.read_frame.new.to ≡ c.min-end.result - c.loop-done.done = grind (arith, common_steps, c.read_frame.ensures.long) in
-    (grind (arith, common_steps), read_more (g.V.RecordView.records c.args.view.now) (g.V.WordSource.words c.args.view.now) c.args.slot c.args.process.now c.requires.read
-    c.args.addr c.loop-done.to c.read_frame.new.to c.loop-done.done c.min-end.result c.in-Some-frame_in.frame c.loop-done.invariant.1 found
-    (omega arith) (omega arith) (omega arith) long (rw place at c.read_frame.ensures.bytes))
+    let long : length c.read_frame.new.to ≡ c.min-end.result - c.loop-done.done = grind (arith, common_steps, c.read_frame.ensures.long) in (
+      grind (arith, common_steps),
+      read_more (g.V.RecordView.records c.args.view.now) (g.V.WordSource.words c.args.view.now) c.args.slot c.args.process.now c.requires.read
+          c.args.addr c.loop-done.to c.read_frame.new.to c.loop-done.done c.min-end.result c.in-Some-frame_in.frame c.loop-done.invariant.1 found
+          (omega arith) (omega arith) (omega arith) long (rw place at c.read_frame.ensures.bytes),
+    )
 
 pub returns-clause-answer : goal.returns-clause-answer
 returns-clause-answer g c =
