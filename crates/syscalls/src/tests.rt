@@ -1,4 +1,6 @@
 //! What the calls of one process ask for. What each must be is worked out by hand.
+ghost use Rattle.std.specs.Prelude.{◌≡◌, slice_index};
+ghost use Rattle.ow_base.specs.UserStep.{register};
 
 mod small_view;
 
@@ -32,7 +34,10 @@ use After::{Behind, Ended, Inside, Wrong};
 // The bytes to be written on terminal 1, by their address and number, and what becomes of the process.
 type Asked = (Option<(u32, u32)>, After);
 
-fn regs_with(number: u32, arguments: [u32; 3]) -> Regs {
+fn regs_with(number: u32, arguments: [u32; 3]) -> Regs
+    ensures descriptor { register result 10 ≡ slice_index arguments 0 }
+    ensures count { register result 12 ≡ slice_index arguments 2 }
+{
     let mut regs = Regs::new();
     regs.set(10, arguments[0]);
     regs.set(11, arguments[1]);

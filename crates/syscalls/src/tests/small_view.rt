@@ -39,6 +39,7 @@ pub(crate) struct SmallView {
     pub(crate) reads_only: bool,
 }
 
+
 impl SmallView {
     // Calls of the process can be served.
     pub(crate) fn can_call(&self)
@@ -58,51 +59,11 @@ impl WordSource for SmallView {
 }
 
 impl RecordView for SmallView {
-    ghost use Rattle.std.specs.Prelude.{◌+◌, ◌-◌, ◌*◌, ◌&&◌, ◌==◌, nat_le, if◌then◌else◌, Some, None, [], ◌∷◌};
-    ghost use Rattle.std.proofs.Common.{arith, rules};
-    ghost use Rattle.std.proofs.lemmas.Grind.{common_steps};
+    ghost use Rattle.syscalls.specs.Small.{small_records, small_values};
 
-    ghost records = { λ s.
-      let blank = record { pc = 0; regs = replicate 31 0 } in
-      record {
-        map = record { area_base = 0; cache_base = 64; pool_base = 128; user_frames = 16; sectors = 4 };
-        head = Some (record { layout = 1; served = 40; last = 0; next = 10; hand = 0 });
-        procs = λ slot. Some (record {
-          state = (if s.inside then 2 else 1);
-          pid = 9;
-          parent = 0;
-          call = (if s.inside then 2 else 0);
-          done = (if s.inside then s.done else 0);
-          code_pages = 1;
-          data_pages = 0;
-          brk = 0;
-          procedure = 0;
-          mask = 0;
-          flags = 0;
-          status = 0;
-          descs = 1 ∷ 2 ∷ 0 ∷ 0 ∷ 0 ∷ 0 ∷ 0 ∷ 0 ∷ [];
-          regs = s.regs;
-          pc = 0x10010;
-          handler_save = blank;
-          crash_save = blank;
-        });
-        sigs = λ slot. Some (record { pid = 0; pending = 0; handlers = replicate 15 0 });
-        descs = λ i. if i == 0
-            then Some (record { object = 2; index = 1; mode = (if s.reads_only then 1 else 3); offset = 0 })
-            else Some (record { object = 0; index = 0; mode = 0; offset = 0 });
-        files = λ i. Some (record { state = 0; name_len = 0; name = replicate 24 0; size = 0; kept = 0; sectors = replicate 64 0 });
-        caches = λ i. Some (record { state = 0; file = 0; page = 0 });
-        terms = λ tty. Some (record { tty = 0; written = 0; last = 0; consumed = 0; top = 0; row = 0; col = 0; base = 0 });
-        rows = λ i. Some (record { place = 0; text = replicate 80 32 });
-        exits = λ pid. Some (record { state = 0; value = 0 });
-        owners = λ frame. if frame == 2 then CODE_CLAIM else if nat_le 3 frame && nat_le frame 6 then STACK_CLAIM + (frame - 3) else 0;
-        cache_owners = λ frame. 0;
-        table_words = λ slot table word.
-            if table == 0 then (if word == 0 then LOW_TABLE else if word == 511 then HIGH_TABLE else 0) else
-            if table == 1 then (if word == 16 then CODE_LEAF else 0) else
-            if nat_le 1020 word then STACK_LEAF + 1024 * (word - 1020) else 0;
-      }
-    };
+    ghost records = { λ s. small_records s.inside s.reads_only s.done s.regs };
+
+    ghost values = { λ s. small_values s.inside s.reads_only s.done s.regs };
 
     fn head(&self) -> Option<HeadRec> {
         Some(HeadRec {
@@ -238,6 +199,4 @@ impl RecordView for SmallView {
     fn pool_base(&self) -> u32 {
         128
     }
-
-    ghost values = { λ view. record { head = ?; procs = ?; sigs = ?; descs = ?; files = ?; caches = ?; terms = ?; rows = ?; exits = ? } };
 }
