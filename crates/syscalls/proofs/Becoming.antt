@@ -1,0 +1,154 @@
+-- A live process of sound records becomes another with the same pid, parent, pages and descriptors: what the records
+-- then stand for.
+use Rattle.std.proofs.Common.{◌≡◌, ◌≢◌, ◌⊎◌, ◌==◌, ◌&&◌, ◌||◌, if◌then◌else◌, ℕ, zero, suc, ◌+◌, ◌-◌, ◌<◌, ◌≤◌, Bool, true, false, List, [], ◌∷◌, Option, Some, None, is_some, inl, inr, refl, sym, ap, subst, ◌∙◌, arith}
+use Rattle.std.proofs.lemmas.Bool.{cases_Bool}
+use Rattle.std.proofs.lemmas.Bool.Decides.{nat_tests}
+use Rattle.std.proofs.lemmas.Grind.{common_steps}
+use Rattle.ow_base.specs.Sv32.{WordMap}
+use Rattle.ow_base.specs.Words.{updated}
+use Rattle.ow_base.specs.declared.machine.Bank.{Bank}
+use Rattle.record_layouts.specs.declared.head.HeadRec.{HeadRec}
+use Rattle.record_layouts.specs.declared.proc.ProcRec.{ProcRec}
+use Rattle.record_layouts.specs.declared.term.TermRec.{TermRec}
+use Rattle.record_layouts.specs.declared.row.RowRec.{RowRec}
+use Rattle.record_layouts.specs.Unix.{Unix, Process, EndedChild, Description, in_use, is_named, is_named_by}
+use Rattle.record_layouts.specs.Calls.{trapped, with_process}
+use Rattle.record_layouts.specs.Choice.{least_from}
+use Rattle.record_layouts.specs.Held.{Records, with_items}
+use Rattle.record_layouts.specs.Pages.{is_live, is_mapped}
+use Rattle.record_layouts.specs.Decode.{Context, InKernel, InUser, slot_by, is_number, pid_in, decodes, description_by, ended_by, ended_in, ended_of, is_ended_as, next_by, last_by, process_at, process_of, processes_of, terminal_by, unix_of, with_bank}
+use Rattle.record_layouts.specs.Sound.{IsIn, AreSound}
+use Rattle.process_table.specs.Patches.{bank_of, head_item, process_item}
+use Rattle.process_table.proofs.Kept.{set_here, set_other, same_or_not}
+use Rattle.process_table.proofs.Regions.{SameRegions, mapped_same}
+use Rattle.process_table.proofs.Seats.{Living, Missing, found_in, living, not_found, pid_here, pid_range, this_number}
+use Rattle.syscalls.proofs.Altered.{altered, decoded_stays, mapped_stays, pid_stays}
+
+-- a live process that is another but for its registers and its call
+pub record IsAfter (process after : ProcRec) : Type 0 where
+  pub pid : after.pid ≡ process.pid
+  pub parent : after.parent ≡ process.parent
+  pub status : after.status ≡ process.status
+  pub descs : after.descs ≡ process.descs
+  pub regions : SameRegions after process
+
+-- the processor is in the kernel, or in the process with this pid
+abbrev pub IsOf : Context → (pid : ℕ) → Type 0
+IsOf InKernel pid = Unit {0}
+IsOf (InUser user count bank) pid = user ≡ pid
+
+-- the bank that a process has
+abbrev pub bank_by : Context → ProcRec → Bank
+bank_by InKernel process = bank_of process
+bank_by (InUser user count bank) process = bank
+
+-- a process that is decoded
+decoded_at : (r : Records) (words : WordMap) (slot : ℕ) (process : ProcRec) → slot_by (r.exits process.pid) ≡ Some slot → pid_in r slot ≡ Some process.pid
+    → r.procs slot ≡ Some process → decodes r slot process.pid process ≡ true → process_at r words process.pid ≡ Some (process_of r words slot process)
+unfolding process_at
+decoded_at r words slot process exit here there decoded = rw exit (rw here (rw (this_number process.pid) (rw there (rw decoded refl))))
+
+decodes_by : (r : Records) (slot : ℕ) (process : ProcRec) → is_some r.head ≡ true → is_live process ≡ true → is_mapped r slot process ≡ true → decodes r slot process.pid process ≡ true
+decodes_by r slot process head live mapped = rw (head, live, mapped) (grind (arith, nat_tests))
+
+-- what a process in the processor is
+banked : (r : Records) (words : WordMap) (slot : ℕ) (process : ProcRec) → process_of r words slot process ≡ record (process_of r words slot process) { bank = bank_of process }
+unfolding process_of
+banked r words slot process = refl
+
+pub caller_decodes : (r : Records) (words : WordMap) (context : Context) (slot : ℕ) (process : ProcRec) → AreSound r → IsIn r slot process → IsOf context process.pid
+    → processes_of r words context process.pid ≡ Some (record (process_of r words slot process) { bank = bank_by context process })
+unfolding processes_of
+caller_decodes r words InKernel slot process sound is of = found_in r words slot process sound is ∙ ap (λ (p : Process). Some p) (banked r words slot process)
+caller_decodes r words (InUser user count bank) slot process sound is of =
+    let same : (process.pid == user) ≡ true = grind (arith, nat_tests, of) in
+    rw same (ap (with_bank bank) (found_in r words slot process sound is))
+
+others_are : (r : Records) (words : WordMap) (context : Context) (pid q : ℕ) → IsOf context pid → (q ≡ pid → ⊥) → processes_of r words context q ≡ process_at r words q
+unfolding processes_of
+others_are r words InKernel pid q of apart = refl
+others_are r words (InUser user count bank) pid q of apart = elim (cases_Bool (q == user)) [
+    inl same ↦ let equal : q ≡ user = grind (arith, nat_tests) in absurd (apart (equal ∙ of))
+  | inr other ↦ rw other refl ]
+
+-- descriptors that name the same
+named_same : (ps : ℕ → Option Process) (pid : ℕ) (old new : Process) (number q : ℕ) → ps pid ≡ Some old → new.descriptors ≡ old.descriptors
+    → is_named_by number (updated ps pid (Some new) q) ≡ is_named_by number (ps q)
+named_same ps pid old new number q there same = elim (same_or_not q pid) [
+    inl equal ↦ subst (λ (k : ℕ). is_named_by number (updated ps pid (Some new) k) ≡ is_named_by number (ps k)) (sym equal)
+        (ap (is_named_by number) (set_here ps pid (Some new)) ∙ (rw same refl ∙ sym (ap (is_named_by number) there)))
+  | inr apart ↦ ap (is_named_by number) (set_other ps pid (Some new) q apart) ]
+
+all_named_same : (ps : ℕ → Option Process) (pid : ℕ) (old new : Process) (number first count : ℕ) → ps pid ≡ Some old → new.descriptors ≡ old.descriptors
+    → is_named (updated ps pid (Some new)) number first count ≡ is_named ps number first count
+unfolding is_named
+all_named_same ps pid old new number first zero there same = refl
+all_named_same ps pid old new number first (suc count) there same =
+    rw (named_same ps pid old new number first there same) (ap (λ (rest : Bool). is_named_by number (ps first) || rest) (all_named_same ps pid old new number (first + 1) count there same))
+
+in_use_same : (ps : ℕ → Option Process) (pid : ℕ) (old new : Process) (ds : ℕ → Option Description) (number : ℕ) → ps pid ≡ Some old → new.descriptors ≡ old.descriptors
+    → in_use (updated ps pid (Some new)) ds number ≡ in_use ps ds number
+unfolding in_use
+in_use_same ps pid old new ds number there same = rw (all_named_same ps pid old new number 1 256 there same) refl
+
+-- who is live stays so
+live_same : (ps : ℕ → Option Process) (pid : ℕ) (old new : Process) (q : ℕ) → ps pid ≡ Some old → is_some (updated ps pid (Some new) q) ≡ is_some (ps q)
+live_same ps pid old new q there = elim (same_or_not q pid) [
+    inl equal ↦ subst (λ (k : ℕ). is_some (updated ps pid (Some new) k) ≡ is_some (ps k)) (sym equal)
+        (ap is_some (set_here ps pid (Some new)) ∙ sym (ap is_some there))
+  | inr apart ↦ ap is_some (set_other ps pid (Some new) q apart) ]
+
+module _ (r : Records) (head : HeadRec) (slot : ℕ) (process after : ProcRec) (terms : ℕ → Option TermRec) (rows : ℕ → Option RowRec) (trap : ℕ)
+    (words : WordMap) (context : Context) (sound : AreSound r) (is_head : r.head ≡ Some head) (is : IsIn r slot process) (of : IsOf context process.pid) (next : IsAfter process after) where
+
+  -- the records in which it is another
+  abbrev pub become : Records
+  become = altered r (Some (record head { served = trap; last = process.pid })) (updated r.procs slot (Some after)) terms rows
+
+  -- the state before, and the process after
+  abbrev before : ℕ → Option Process
+  before = processes_of r words context
+
+  abbrev then_is : Process
+  then_is = process_of r words slot after
+
+  stays_mapped : (place : ℕ) (other : ProcRec) → is_mapped r place other ≡ true → is_mapped become place other ≡ true
+  stays_mapped place other mapped = mapped_stays r (Some (record head { served = trap; last = process.pid })) (updated r.procs slot (Some after)) terms rows place other ∙ mapped
+
+  here : process_at become words process.pid ≡ Some then_is
+  here =
+      let exit : slot_by (r.exits after.pid) ≡ Some slot = ap (λ (p : ℕ). slot_by (r.exits p)) next.pid ∙ sound.numbered.exit slot process is in
+      let seat : pid_in become slot ≡ Some after.pid =
+          pid_stays r (Some (record head { served = trap; last = process.pid })) (updated r.procs slot (Some after)) terms rows slot
+          ∙ (pid_here r slot process sound.values sound.numbered is ∙ ap (λ (p : ℕ). Some p) (sym next.pid)) in
+      let mapped : is_mapped become slot after ≡ true = stays_mapped slot after (mapped_same r slot after process next.regions ∙ sound.mapped.mapped slot process is) in
+      let decoded : process_at become words after.pid ≡ Some (process_of become words slot after) =
+          decoded_at become words slot after exit seat (set_here r.procs slot (Some after)) (decodes_by become slot after refl next.regions.live mapped) in
+      subst (λ (p : ℕ). process_at become words p ≡ Some (process_of become words slot after)) next.pid decoded
+      ∙ ap (λ (p : Process). Some p) (decoded_stays r (Some (record head { served = trap; last = process.pid })) (updated r.procs slot (Some after)) terms rows words slot after)
+
+  there_too : (q : ℕ) → (live : Living r words q) → (q ≡ process.pid → ⊥) → process_at become words q ≡ process_at r words q
+  there_too q live apart =
+      let places : live.slot ≡ slot → ⊥ = λ same.
+          apart (sound.numbered.one_slot q process.pid slot (subst (λ (k : ℕ). slot_by (r.exits q) ≡ Some k) same live.exit) (sound.numbered.exit slot process is)) in
+      let exit : slot_by (r.exits live.process.pid) ≡ Some live.slot = ap (λ (p : ℕ). slot_by (r.exits p)) live.same ∙ live.exit in
+      let seat : pid_in become live.slot ≡ Some live.process.pid =
+          pid_stays r (Some (record head { served = trap; last = process.pid })) (updated r.procs slot (Some after)) terms rows live.slot
+          ∙ pid_here r live.slot live.process sound.values sound.numbered live.is in
+      let there : updated r.procs slot (Some after) live.slot ≡ Some live.process = set_other r.procs slot (Some after) live.slot places ∙ live.is.there in
+      let decoded : process_at become words live.process.pid ≡ Some (process_of become words live.slot live.process) =
+          decoded_at become words live.slot live.process exit seat there
+          (decodes_by become live.slot live.process refl live.is.live (stays_mapped live.slot live.process (sound.mapped.mapped live.slot live.process live.is))) in
+      subst (λ (p : ℕ). process_at become words p ≡ Some (process_of become words live.slot live.process)) live.same decoded
+      ∙ (ap (λ (p : Process). Some p) (decoded_stays r (Some (record head { served = trap; last = process.pid })) (updated r.procs slot (Some after)) terms rows words live.slot live.process)
+      ∙ sym live.decoded)
+
+  others_stay : (q : ℕ) → (q ≡ process.pid → ⊥) → process_at become words q ≡ process_at r words q
+  others_stay q apart = elim (living r words q sound) [
+      inl missing ↦ not_found become words q missing.exit ∙ sym missing.decoded
+    | inr live ↦ there_too q live apart ]
+
+  processes_then : (q : ℕ) → process_at become words q ≡ updated before process.pid (Some then_is) q
+  processes_then q = elim (same_or_not q process.pid) [
+      inl equal ↦ subst (λ (k : ℕ). process_at become words k ≡ updated before process.pid (Some then_is) k) (sym equal) (here ∙ sym (set_here before process.pid (Some then_is)))
+    | inr apart ↦ others_stay q apart ∙ (sym (others_are r words context process.pid q of apart) ∙ sym (set_other before process.pid (Some then_is) q apart)) ]

@@ -1,0 +1,38 @@
+-- What becomes of what is held once a call is served.
+use Rattle.std.specs.Prelude.{◌≡◌, ◌≢◌, ℕ, ◌+◌, ◌-◌, ◌/◌, ◌^◌, ◌<◌, min, List, ◌++◌, length, Option, Some, None}
+use Rattle.ow_base.specs.Sv32.{WordMap}
+use Rattle.ow_base.specs.Words.{updated}
+use Rattle.ow_base.specs.Pages.{bytes_at}
+use Rattle.record_layouts.specs.declared.proc.ProcRec.{ProcRec}
+use Rattle.record_layouts.specs.declared.term.TermRec.{TermRec}
+use Rattle.record_layouts.specs.Held.{Records, with_items}
+use Rattle.record_layouts.specs.Decode.{tape_by}
+use Rattle.record_layouts.specs.Pages.{pages_of}
+use Rattle.syscalls.specs.Planned.{Planned, PlanOnce, PlanWrite}
+
+-- Bytes are written on a terminal of which this was the record and the tape: its tape as it decodes has them behind, its
+-- record counts them up to the last number that there is, and what is typed and the last reset stay.
+pub record AreCounted (bytes : List ℕ) (tape written_tape : List ℕ) (before after : TermRec) : Type 0 where
+  pub written : after.written ≡ min (before.written + length bytes) (2 ^ 32 - 1)
+  pub consumed : after.consumed ≡ before.consumed
+  pub base : after.base ≡ before.base
+  pub decoded : tape_by written_tape after ≡ tape_by tape before ++ bytes
+
+abbrev pub AreCountedBy : (bytes tape written_tape : List ℕ) (before after : Option TermRec) → Type 0
+AreCountedBy bytes tape written_tape (Some before) (Some after) = AreCounted bytes tape written_tape before after
+AreCountedBy bytes tape written_tape before after = ⊥
+
+-- bytes are written on a terminal: no record changes but its own and its rows, of which there are 24, and no other tape
+pub record AreWritten (r : Records) (tapes : ℕ → List ℕ) (tty : ℕ) (bytes : List ℕ) (written : Records) (written_tapes : ℕ → List ℕ) : Type 0 where
+  pub rest : written ≡ record r { terms = written.terms; rows = written.rows }
+  pub terms : (other : ℕ) → other ≢ tty → written.terms other ≡ r.terms other
+  pub rows : (index : ℕ) → index / 24 ≢ tty → written.rows index ≡ r.rows index
+  pub own_tape : written_tapes tty ≡ tapes tty ++ bytes
+  pub tapes : (other : ℕ) → other ≢ tty → written_tapes other ≡ tapes other
+  pub counted : AreCountedBy bytes (tapes tty) (written_tapes tty) (r.terms tty) (written.terms tty)
+
+-- the records and tapes once the call of the process in a slot is served
+abbrev pub IsDone : Records → WordMap → (tapes : ℕ → List ℕ) → (slot : ℕ) → ProcRec → Planned → Records → (tapes : ℕ → List ℕ) → Type 0
+IsDone r words tapes slot process (PlanOnce items) done done_tapes = (done ≡ with_items r items) × (done_tapes ≡ tapes)
+IsDone r words tapes slot process (PlanWrite tty from len items) done done_tapes =
+    (written : Records) × AreWritten r tapes tty (bytes_at (pages_of r words slot process) from len) written done_tapes × (done ≡ with_items written items)

@@ -1,0 +1,130 @@
+-- What a call of a process asks for, by its records: which records are set as the trap ends, and which of its bytes are
+-- written on a terminal before.
+use Rattle.std.specs.Prelude.{ℕ, ◌+◌, ◌-◌, ◌/◌, ◌%◌, Bool, true, false, nat_lt, not, ◌==◌, if◌then◌else◌, List, [], ◌∷◌, slice_get, Option, Some, None}
+use Rattle.ow_base.specs.Words.{wrapped, minus}
+use Rattle.ow_base.specs.UserStep.{register, with_register}
+use Rattle.ow_base.specs.Sv32.{WordMap}
+use Rattle.ow_base.specs.Pages.{Pages, is_readable}
+use Rattle.ow_base.specs.declared.machine.Bank.{Bank}
+use Rattle.record_layouts.specs.declared.head.HeadRec.{HeadRec}
+use Rattle.record_layouts.specs.declared.proc.ProcRec.{ProcRec}
+use Rattle.record_layouts.specs.declared.desc.DescRec.{DescRec}
+use Rattle.record_layouts.specs.declared.patch.PatchItem.{PatchItem}
+use Rattle.record_layouts.specs.Calls.{tty_piece}
+use Rattle.record_layouts.specs.Held.{Records}
+use Rattle.record_layouts.specs.Pages.{pages_of}
+use Rattle.syscalls.specs.declared.caller.Caller.{Caller}
+use Rattle.process_table.specs.Patches.{head_item, process_item, ended_items, saved_process}
+
+-- records are set at once, or after bytes of the process, so many from an address on, are written on a terminal
+pub data Planned : Type 0 where
+  PlanOnce : (items : List PatchItem) → Planned
+  PlanWrite : (tty from len : ℕ) (items : List PatchItem) → Planned
+
+-- the argument registers of a process
+abbrev pub argument_of : ProcRec → (index : ℕ) → ℕ
+argument_of process index = register process.regs (10 + index)
+
+-- the process behind its call, with an answer in a0 or with none
+abbrev pub answered_process : ProcRec → (answer : ℕ) → ProcRec
+answered_process process answer = record process {
+  state = 1;
+  call = 0;
+  done = 0;
+  pc = wrapped (process.pc + 4);
+  regs = with_register process.regs 10 answer;
+}
+
+abbrev pub yielded_process : ProcRec → ProcRec
+yielded_process process = record process { state = 1; call = 0; done = 0; pc = wrapped (process.pc + 4) }
+
+-- the process in its write, with so many bytes done
+abbrev pub staying_process : ProcRec → (done : ℕ) → ProcRec
+staying_process process done = record process { state = 2; call = 2; done = done }
+
+-- the records that are set where the process of a caller becomes this
+abbrev pub items_of : Caller → ProcRec → List PatchItem
+items_of c process = head_item c.head c.trap process.pid ∷ process_item c.slot process ∷ []
+
+abbrev pub planned_answer : Caller → (answer : ℕ) → Planned
+planned_answer c answer = PlanOnce (items_of c (answered_process c.process answer))
+
+-- a write of count bytes after a piece: it answers with its last one, and else stays
+abbrev pub written_process : ProcRec → (count done : ℕ) → ProcRec
+written_process process count done = if done == count then answered_process process count else staying_process process done
+
+-- what a piece answers that is stopped: the bytes done, or the error where there are none
+abbrev pub stopped_answer : (done error : ℕ) → ℕ
+stopped_answer done error = if done == 0 then minus error else done
+
+-- one piece of a write of which so many bytes are done; EFAULT is 14
+unfoldable pub planned_tty : Pages → Caller → (tty done : ℕ) → Planned
+planned_tty pages c tty done =
+    let address = argument_of c.process 1 in
+    let count = argument_of c.process 2 in
+    let piece = tty_piece count done in
+    if is_readable pages (address + done) piece
+    then PlanWrite tty (address + done) piece (items_of c (written_process c.process count (done + piece)))
+    else planned_answer c (stopped_answer done 14)
+
+-- the open description that a descriptor names
+abbrev pub if_open : Option DescRec → Option DescRec
+if_open (Some description) = if description.object == 0 then None else Some description
+if_open None = None
+
+abbrev pub named_by : (descs : ℕ → Option DescRec) → (word : Option ℕ) → Option DescRec
+named_by descs (Some word) = if word == 0 then None else if_open (descs (word - 1))
+named_by descs None = None
+
+unfoldable pub named : Records → (words : List ℕ) → (descriptor : ℕ) → Option DescRec
+named r words descriptor = named_by r.descs (slice_get words descriptor)
+
+-- it is open to write
+abbrev pub is_written : DescRec → Bool
+is_written description = description.mode / 2 == 1
+
+-- write(fd, address, count): EBADF 9, EINVAL 22, 0 for no bytes, else the first piece
+unfoldable pub planned_write_on : Pages → Caller → Option DescRec → Planned
+planned_write_on pages c None = planned_answer c (minus 9)
+planned_write_on pages c (Some description) =
+    if not (is_written description) then planned_answer c (minus 9) else
+    if nat_lt 0x7fffffff (argument_of c.process 2) then planned_answer c (minus 22) else
+    if argument_of c.process 2 == 0 then planned_answer c 0 else
+    planned_tty pages c description.index 0
+
+unfoldable pub planned_write : Records → Pages → Caller → Planned
+planned_write r pages c = planned_write_on pages c (named r c.process.descs (argument_of c.process 0))
+
+-- the call with this number: exit, write, getpid, yield; a number that is no call answers ENOSYS 38
+unfoldable pub planned_number : Records → Pages → Caller → (number : ℕ) → Planned
+planned_number r pages c number =
+    if number == 1 then PlanOnce (ended_items c.head c.slot c.process (argument_of c.process 0 % 256) c.trap) else
+    if number == 2 then planned_write r pages c else
+    if number == 7 then planned_answer c c.process.pid else
+    if number == 18 then PlanOnce (items_of c (yielded_process c.process)) else
+    planned_answer c (minus 38)
+
+-- the pages of the process in a slot, none where its record does not decode
+abbrev pub pages_if : Records → WordMap → (slot : ℕ) → Option ProcRec → Pages
+pages_if r words slot (Some process) = pages_of r words slot process
+pages_if r words slot None = record { rights = λ page. None; bytes = λ a. 0 }
+
+abbrev pub pages_in : Records → WordMap → (slot : ℕ) → Pages
+pages_in r words slot = pages_if r words slot (r.procs slot)
+
+-- the call that the process in a slot makes with a bank: its number is in a7
+abbrev pub caller_with : (slot trap : ℕ) → HeadRec → ProcRec → Caller
+caller_with slot trap head process = record { slot = slot; process = process; head = head; trap = trap }
+
+unfoldable pub planned_call : Records → WordMap → (slot trap : ℕ) → HeadRec → ProcRec → Bank → Planned
+planned_call r words slot trap head process bank =
+    planned_number r (pages_of r words slot process) (caller_with slot trap head (saved_process process bank)) (register bank.regs 17)
+
+-- a further piece of the write that the process in a slot is in
+abbrev pub planned_further : Pages → Caller → Option DescRec → Planned
+planned_further pages c (Some description) = planned_tty pages c description.index c.process.done
+planned_further pages c None = PlanOnce []
+
+unfoldable pub planned_piece : Records → WordMap → (slot trap : ℕ) → HeadRec → ProcRec → Planned
+planned_piece r words slot trap head process =
+    planned_further (pages_of r words slot process) (caller_with slot trap head process) (named r process.descs (argument_of process 0))

@@ -1,0 +1,15 @@
+//! The system calls: what the call of a process asks of the kernel. All is read from a view of records, and what is to
+//! be done is answered as a service. The calls are exit, write on terminals, getpid and yield.
+#![tactic(auto)]
+
+mod caller;
+mod calls;
+mod service;
+
+pub use calls::{enter_call, next_piece};
+pub use ow_base::{Bank, Now};
+pub use record_layouts::{Patch, RecordView};
+pub use service::Service;
+
+#[cfg(test)]
+mod tests;

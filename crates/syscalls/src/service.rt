@@ -1,0 +1,18 @@
+//! What a trap is to do for a process in its call.
+
+use record_layouts::Patch;
+
+/// What is left to do in the trap of a call. The patch ends the trap: it is committed last.
+#[derive(Debug, Drop)]
+pub enum Service {
+    /// Only the patch is to be committed.
+    Once { patch: Patch },
+    /// The bytes of the process from the address `from` on, `len` of them, 1 to 16, are written on terminal `tty`,
+    /// and then the patch is committed.
+    TtyWrite {
+        tty: u32,
+        from: u32,
+        len: u32,
+        patch: Patch,
+    },
+}
