@@ -11,7 +11,7 @@ use Rattle.ow_base.specs.declared.machine.Phys.{Phys}
 use Rattle.ow_base.specs.declared.machine.Shape.{Shape}
 use Rattle.ow_base.specs.declared.machine.Width.{Width}
 use Rattle.ow_base.proofs.Simulations.{FollowsStore, Follows, Alike, follows}
-use Rattle.phys_memory.specs.Memory.{MemoryParts, IsSized, words_of, with_word, zeroed}
+use Rattle.phys_memory.specs.Memory.{IsSized, words_of, with_word}
 use Rattle.phys_memory.proofs.Words.{IsSized-set, IsSized-zeroed}
 use Rattle.ow_plant.specs.State.{PlantState, Seen, seen_space, seen_by, IsReady, IsArmed, StepsAs, TakesUserTurn, refusal, with_stored, with_put, entered, left_trap, returned_to}
 use Rattle.ow_plant.specs.declared.UserEnd.{UserEnd}

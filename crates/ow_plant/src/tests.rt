@@ -1,4 +1,5 @@
 ghost use Rattle.std.specs.Prelude.{◌≡◌, ◌≤◌, ◌<◌, true, [], IfOk};
+ghost use Rattle.ow_plant.specs.State.{silent_terminal};
 
 use crate::UserEnd;
 use crate::displays::Display;
@@ -155,6 +156,7 @@ fn set(plant: &mut Plant, frame: u32, word: u32, value: u32) -> bool
     requires armed { plant.old.armed ≡ true }
     requires word { word < 1024 }
     ensures armed { plant.new.armed ≡ true }
+    ensures silent { plant.new.tty1 ≡ plant.old.tty1 }
 {
     match WordSource::load(plant, frame, word) {
         Some(_) => plant.store(frame, word, value).is_ok(),
@@ -453,7 +455,8 @@ fn point(trap: u32, store: u32) -> Point
 fn with_points(alloc: Global, trap: u32, store: u32) -> Result<Plant, AllocError>
     requires first { 1 ≤ trap }
     requires last { trap < 100 }
-    ensures { IfOk result (λ plant. plant.armed ≡ true) }
+    ensures armed { IfOk result (λ plant. plant.armed ≡ true) }
+    ensures silent { IfOk result (λ plant. plant.tty1 ≡ silent_terminal 160) }
 {
     let mut plant = Plant::new(alloc);
     let points = [point(trap, store), point(trap + 1, 0)];
@@ -464,7 +467,8 @@ fn with_points(alloc: Global, trap: u32, store: u32) -> Result<Plant, AllocError
 /// A trap that makes so many stores, in the first words of the boot frame; whether none of it was refused.
 fn serve(plant: &mut Plant, stores: u32) -> bool
     requires { plant.old.armed ≡ true }
-    ensures { plant.new.armed ≡ true }
+    ensures armed { plant.new.armed ≡ true }
+    ensures silent { plant.new.tty1 ≡ plant.old.tty1 }
 {
     plant.enter(Came::Kernel, 1);
     for word in 0..stores {
@@ -593,7 +597,7 @@ fn tells_the_trap(rt: HostRuntime) -> Result<(), Fail> {
         typed: [0, 0],
     };
     assert_eq!(rt; plant.now(), first);
-    assert!(rt; set(&mut plant, 0, 0, 1) && plant.put(0, b'a').is_ok());
+    assert!(rt; set(&mut plant, 0, 0, 1) && plant.put(1, b'a').is_ok());
     assert_eq!(rt; (plant.stores_made(), plant.all_stores()), (2, 2));
     plant.enter(Came::User, 1);
     assert_eq!(rt; (plant.now(), plant.stores_made()), (first, 0));
