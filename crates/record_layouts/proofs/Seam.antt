@@ -2,7 +2,7 @@
 use Rattle.std.proofs.Common.{◌≡◌, ◌≢◌, ℕ, ◌+◌, ◌-◌, ◌*◌, ◌<◌, ◌≤◌, ◌⊎◌, Bool, true, false, if◌then◌else◌, nat_lt, ◌==◌, ◌&&◌, List, [], ◌∷◌, All, length, slice_index, Option, Some, None, refl, sym, ◌∙◌, ap, arith, inl, inr}
 use Rattle.std.proofs.lemmas.Grind.{common_steps}
 use Rattle.std.proofs.lemmas.Bool.Decides.{nat_tests}
-use Rattle.std.proofs.lemmas.List.Elements.{All-head, All-tail}
+use Rattle.std.proofs.lemmas.List.Elements.{All-cons, All-head, All-nil, All-tail}
 use Rattle.std.proofs.lemmas.Bool.{cases_Bool, cases_eq, eq-eqb, lt-ltb, ltb-true, ne_eqb}
 use Rattle.ow_base.specs.Words.{updated}
 use Rattle.record_layouts.specs.declared.memory_map.MemoryMap.{MemoryMap}
@@ -105,7 +105,7 @@ same_where true some other same = same refl
 same_where false some other same = refl
 
 -- the words of frame 10, and of those from 12 on, stay
-stays : (number : ℕ) → ((10240 ≤ number) × (number < 11264)) ⊎ (12288 ≤ number) → may_change number (number + 1) ≡ false
+pub stays : (number : ℕ) → ((10240 ≤ number) × (number < 11264)) ⊎ (12288 ≤ number) → may_change number (number + 1) ≡ false
 stays number (inl owner) = grind (arith, nat_tests)
 stays number (inr table) = grind (arith, nat_tests)
 
@@ -374,6 +374,13 @@ set_items map room area (range ∷ ranges) (item ∷ items) each spelled =
     let s = spelled.0 in
     set_items map room (with_range area range) ranges items (All-tail IsPatchItem item items each) spelled.1
     ∙ ap (λ r. with_items r items) (set_one map room area range item.id item.rec is.there is.kind s.begin s.long s.allowed s.spelled)
+
+-- an intent may have them all
+pub allowed_ranges : (ranges : List WordRange) (items : List PatchItem) → AreSpelled ranges items → All IsAllowed ranges
+allowed_ranges [] [] spelled = All-nil IsAllowed
+allowed_ranges [] (item ∷ items) spelled = absurd spelled
+allowed_ranges (range ∷ ranges) [] spelled = absurd spelled
+allowed_ranges (range ∷ ranges) (item ∷ items) spelled = All-cons IsAllowed range ranges spelled.0.allowed (allowed_ranges ranges items spelled.1)
 
 -- the ranges of a patch, laid over an area, set its records and nothing else
 pub patch_sets : (map : MemoryMap) → map.user_frames ≤ 384 → (area : Area) (ranges : List WordRange) (items : List PatchItem) → IsPatch items

@@ -1,6 +1,6 @@
 -- What stores of single words of an area make of its records: those of the frames of owners and of tables set words of
 -- these, and those of the intent block and of spare frames set none.
-use Rattle.std.proofs.Common.{◌≡◌, ◌≢◌, ℕ, ◌+◌, ◌-◌, ◌*◌, ◌/◌, ◌%◌, ◌<◌, ◌≤◌, ◌⊎◌, Bool, true, false, if◌then◌else◌, nat_lt, ◌==◌, ◌&&◌, List, Option, Some, None, refl, sym, ◌∙◌, ap, arith, inl, inr}
+use Rattle.std.proofs.Common.{◌≡◌, ◌≢◌, ℕ, ◌+◌, ◌-◌, ◌*◌, ◌/◌, ◌%◌, ◌<◌, ◌≤◌, ◌⊎◌, Bool, true, false, if◌then◌else◌, nat_lt, ◌==◌, ◌&&◌, List, [], Option, Some, None, refl, sym, ◌∙◌, ap, arith, inl, inr}
 use Rattle.std.proofs.lemmas.Grind.{common_steps}
 use Rattle.std.proofs.lemmas.Bool.{cases_Bool, cases_eq, cases_lt, eq-eqb, le-ltb, lt-ltb, ltb-true, ne_eqb}
 use Rattle.std.proofs.lemmas.Bool.Decides.{nat_tests}
@@ -9,11 +9,11 @@ use Rattle.record_layouts.specs.declared.memory_map.MemoryMap.{MemoryMap}
 use Rattle.record_layouts.specs.declared.places.RecordId.{RecordId}
 use Rattle.record_layouts.specs.declared.places.RecordId.TheVariants as id
 use Rattle.record_layouts.specs.Places.{IsRecordId, first_word, length_of}
-use Rattle.record_layouts.specs.Overlay.{Area, area_at, gate_of, may_change, open_ranges, overlay, words_from}
+use Rattle.record_layouts.specs.Overlay.{Area, area_at, gate_of, may_change, gate_word, laid, or_none, open_ranges, overlay, words_from, WordRange}
 use Rattle.record_layouts.specs.Spelling.{lies_between}
 use Rattle.record_layouts.specs.Tests.{decides_between}
 use Rattle.record_layouts.specs.Held.{with_area_words, with_owner_words, with_table_words}
-use Rattle.record_layouts.specs.Reading.{records_in, records_of, words_of}
+use Rattle.record_layouts.specs.Reading.{is_readable_gate, records_in, records_of, words_of}
 use Rattle.record_layouts.specs.Seam.{with_frame_words}
 use Rattle.record_layouts.specs.Head.{head_in}
 use Rattle.record_layouts.specs.Proc.{proc_in}
@@ -25,7 +25,7 @@ use Rattle.record_layouts.specs.Term.{term_in}
 use Rattle.record_layouts.specs.Row.{row_in}
 use Rattle.record_layouts.specs.Exit.{exit_in}
 use Rattle.record_layouts.proofs.Intents.{open_ranges-same, overlay-beside, within_part, words_from-same}
-use Rattle.record_layouts.proofs.Seam.{read_at, same_where}
+use Rattle.record_layouts.proofs.Seam.{read_at, same_where, stays}
 
 -- an intent may change each word of a record
 may_change_each : (one : RecordId) → IsRecordId one → (number : ℕ) → first_word one ≤ number → number < first_word one + length_of one → may_change number (number + 1) ≡ true
@@ -226,3 +226,79 @@ module _ (map : MemoryMap) (room : map.user_frames ≤ 384) (is_readable : Bool)
         | inl spare ↦ spare_words_stay past spare ∙ rw (ne_eqb frame 10 (λ is. omega arith), lt-ltb frame 16 spare) refl
         | inr table ↦ table_words_set table less_frame ∙ rw (ne_eqb frame 10 (λ is. omega arith), le-ltb frame 16 table) refl
       ]
+
+-- what is read of an area whose gate is closed, and of one in which a valid intent is open
+module _ (area : Area) where
+  closed_ranges : area gate_word ≡ 0 → open_ranges area ≡ None
+  unfolding open_ranges
+  closed_ranges closed = grind (arith, nat_tests)
+
+  overlay_is : (ranges : List WordRange) → or_none (open_ranges area) ≡ ranges → overlay area ≡ (λ number. laid ranges number (area number))
+  unfolding overlay
+  overlay_is ranges is = λ j. λ number. laid (is j) number (area number)
+
+  closed_readable : area gate_word ≡ 0 → is_readable_gate (gate_of area) ≡ true
+  closed_readable closed = rw closed refl
+
+  open_readable : (ranges : List WordRange) → open_ranges area ≡ Some ranges → is_readable_gate (gate_of area) ≡ true
+  open_readable ranges is = elim (cases_Bool (area gate_word == 0)) [
+      | inl holds ↦ rw holds refl
+      | inr fails ↦ rw (fails, is) refl
+    ]
+
+module _ (map : MemoryMap) (words : WordMap) where
+  pub records_closed : area_at words map.area_base gate_word ≡ 0 → records_of map words ≡ records_in map true (area_at words map.area_base)
+  unfolding records_of laid
+  records_closed closed =
+      let area = area_at words map.area_base in
+      let shown = overlay_is area [] (ap or_none (closed_ranges area closed)) in
+      λ j. records_in map (closed_readable area closed j) (shown j)
+
+  pub records_open : (ranges : List WordRange) → open_ranges (area_at words map.area_base) ≡ Some ranges
+      → records_of map words ≡ records_in map true (λ number. laid ranges number (area_at words map.area_base number))
+  unfolding records_of
+  records_open ranges is =
+      let area = area_at words map.area_base in
+      let shown = overlay_is area ranges (ap or_none is) in
+      λ j. records_in map (open_readable area ranges is j) (shown j)
+
+-- what is read of an area of which words beside the records are set by themselves: the same words, set there too
+module _ (area other : Area) (frame : ℕ) (hit : ℕ → Bool) (value : ℕ → ℕ) (where_it_is : (frame ≡ 10) ⊎ (12 ≤ frame))
+    (set_there : (number : ℕ) → other number ≡ with_frame_words area frame hit value number) where
+  far : 10 ≤ frame
+  far = elim where_it_is [ | inl owners ↦ omega arith | inr tables ↦ omega arith ]
+
+  same_low : (number : ℕ) → number < 1024 → other number ≡ area number
+  same_low number low = set_there number ∙ other_frame area frame hit value number (λ is. let past = far in omega arith)
+
+  same_block : open_ranges other ≡ open_ranges area
+  same_block = open_ranges-same other area (λ number low high. same_low number high)
+
+  same_gate : gate_of other ≡ gate_of area
+  same_gate = let gates : other gate_word ≡ area gate_word = same_low gate_word (omega arith) in rw (gates, same_block) refl
+
+  stays_there : (number : ℕ) → number / 1024 ≡ frame → may_change number (number + 1) ≡ false
+  stays_there number is = elim where_it_is [ | inl owners ↦ stays number (inl (omega arith, omega arith)) | inr tables ↦ stays number (inr (omega arith)) ]
+
+  set_in_overlay : (number : ℕ) → overlay other number ≡ with_frame_words (overlay area) frame hit value number
+  unfolding overlay
+  set_in_overlay number =
+      elim (cases_Bool (number / 1024 == frame && hit (number % 1024))) [
+        | inl holds ↦
+            let is : number / 1024 ≡ frame = grind (arith, nat_tests) in
+            rw holds (overlay-beside other number (stays_there number is) ∙ set_there number ∙ rw holds refl)
+        | inr fails ↦ rw (same_block, set_there number, fails) refl
+      ]
+
+-- so words of a frame of the area that are set by themselves set those words of the records that they are
+pub stored_words_set : (map : MemoryMap) → map.user_frames ≤ 384 → (some other : WordMap) (frame : ℕ) (hit : ℕ → Bool) (value : ℕ → ℕ) → (frame ≡ 10) ⊎ (12 ≤ frame) → frame < 64
+    → ((number : ℕ) → area_at other map.area_base number ≡ with_frame_words (area_at some map.area_base) frame hit value number)
+    → records_of map other ≡ with_area_words (records_of map some) frame hit value
+unfolding records_of
+stored_words_set map room some other frame hit value where_it_is less_frame set_there =
+    let area = area_at some map.area_base in
+    let after = area_at other map.area_base in
+    let gate = same_gate area after frame hit value where_it_is set_there in
+    let shown = set_in_overlay area after frame hit value where_it_is set_there in
+    (λ j. records_in map (is_readable_gate (gate j)) (λ number. shown number j))
+    ∙ area_words_set map room (is_readable_gate (gate_of area)) (overlay area) frame hit value where_it_is less_frame
