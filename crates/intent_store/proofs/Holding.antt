@@ -48,7 +48,7 @@ has_area s is = record { numbered = base_room s.live s.shape.user_frames is.few_
 pub able_by : (s : PlantState) → IsArmed s → s.refused ≡ false → is_able s ≡ true
 able_by s is free = rw (is.armed, free) refl
 
-map_same : (old new : PlantState) → rest_of new ≡ rest_of old → map_of new ≡ map_of old
+pub map_same : (old new : PlantState) → rest_of new ≡ rest_of old → map_of new ≡ map_of old
 map_same old new e = ap (λ (s : PlantState). map_of s) e
 
 -- the head is read only where the area is readable

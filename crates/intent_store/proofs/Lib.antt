@@ -8,3 +8,4 @@ pub mod Words
 pub mod Plants
 pub mod Reading
 pub mod Holding
+pub mod Direct
