@@ -110,6 +110,18 @@ module _ (old new : PlantState) (frame : ℕ) (hit : ℕ → Bool) (value : ℕ 
   }
 
 -- the words of a frame beside the area
-pub beside_is : (words : WordMap) (base frame : ℕ) → is_of_area base frame ≡ false → (λ w. word_or_zero (words frame w)) ≡ (λ w. word_or_zero (beside base words frame w))
+beside_at : (words : WordMap) (base frame w : ℕ) → is_of_area base frame ≡ false → word_or_zero (words frame w) ≡ word_or_zero (beside base words frame w)
 unfolding beside
-beside_is words base frame of = rw of refl
+beside_at words base frame w of = rw of refl
+
+pub beside_is : (words : WordMap) (base frame : ℕ) → is_of_area base frame ≡ false → ◌≡◌ {A = ℕ → ℕ} (λ w. word_or_zero (words frame w)) (λ w. word_or_zero (beside base words frame w))
+beside_is words base frame of = λ i w. beside_at words base frame w of i
+
+-- where no word was set
+pub standing_same : (old new : PlantState) → rest_of new ≡ rest_of old → words_of new.memory ≡ words_of old.memory → IsStanding old → IsStanding new
+standing_same old new rest same stands =
+    let records : records_held new ≡ records_held old = λ i. records_of (map_same old new rest i) (same i) in
+    record {
+      armed = armed_by_rest old new rest stands.armed;
+      decodes = ap (λ (r : Records). is_some r.head) records ∙ stands.decodes;
+    }
