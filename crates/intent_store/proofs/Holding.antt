@@ -1,5 +1,5 @@
 -- What a plant holds after stores.
-use Rattle.std.proofs.Common.{◌≡◌, ℕ, suc, ◌+◌, ◌-◌, ◌*◌, ◌/◌, ◌%◌, ◌<◌, ◌≤◌, Bool, true, false, nat_lt, not, ◌&&◌, ◌==◌, if◌then◌else◌, List, [], length, Option, Some, None, is_some, refl, sym, ap, subst, ◌∙◌, ◌⊎◌, arith, inl, inr}
+use Rattle.std.proofs.Common.{◌≡◌, ℕ, suc, ◌+◌, ◌-◌, ◌*◌, ◌/◌, ◌%◌, ◌<◌, ◌≤◌, Bool, true, false, nat_lt, not, ◌&&◌, ◌==◌, if◌then◌else◌, List, [], ◌∷◌, length, Option, Some, None, is_some, refl, sym, ap, subst, ◌∙◌, ◌⊎◌, arith, inl, inr}
 use Rattle.std.proofs.lemmas.Bool.{cases_Bool}
 use Rattle.std.proofs.lemmas.Bool.Decides.{nat_tests}
 use Rattle.ow_base.specs.Sv32.{WordMap}
@@ -48,7 +48,7 @@ has_area s is = record { numbered = base_room s.live s.shape.user_frames is.few_
 pub able_by : (s : PlantState) → IsArmed s → s.refused ≡ false → is_able s ≡ true
 able_by s is free = rw (is.armed, free) refl
 
-map_same : (old new : PlantState) → rest_of new ≡ rest_of old → map_of new ≡ map_of old
+pub map_same : (old new : PlantState) → rest_of new ≡ rest_of old → map_of new ≡ map_of old
 map_same old new e = ap (λ (s : PlantState). map_of s) e
 
 -- the head is read only where the area is readable
@@ -62,6 +62,14 @@ readable_by s e = readable_head _ _ e
 
 record_head : (r : Records) (id : RecordId) (rec : AnyRec) → is_some r.head ≡ true → is_some (with_record r id rec).head ≡ true
 record_head r id.Head (any.Head head) e = refl
+record_head r (id.Proc slot) (any.Proc process) e = e
+record_head r (id.Sig slot) (any.Sig signals) e = e
+record_head r (id.Desc index) (any.Desc description) e = e
+record_head r (id.File index) (any.File file) e = e
+record_head r (id.Cache index) (any.Cache entry) e = e
+record_head r (id.Term tty) (any.Term terminal) e = e
+record_head r (id.Row index) (any.Row row) e = e
+record_head r (id.Exit pid) (any.Exit exit) e = e
 record_head r other rec e = e
 
 items_head : (items : List PatchItem) (r : Records) → is_some r.head ≡ true → is_some (with_items r items).head ≡ true

@@ -7,5 +7,5 @@ pub mod Payloads
 pub mod Words
 pub mod Plants
 pub mod Reading
-pub mod Seams
 pub mod Holding
+pub mod Direct

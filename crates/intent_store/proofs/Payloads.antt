@@ -10,7 +10,8 @@ use Rattle.record_layouts.specs.declared.places.RecordId.TheVariants as id
 use Rattle.record_layouts.specs.Overlay.{IsAllowed, WordRange, begin_of, end_of, may_change, payload_of}
 use Rattle.record_layouts.specs.Patch.{IsOfKind, IsPatchItem}
 use Rattle.record_layouts.specs.Places.{IsRecordId, first_word, length_of}
-use Rattle.intent_store.specs.Payloads.{AreSpelled, IsPayload, IsSpelled, Spells, SpellsMore}
+use Rattle.record_layouts.specs.Seam.{AreSpelled, IsSpelled, Spells}
+use Rattle.intent_store.specs.Payloads.{IsPayload, SpellsMore}
 
 pub payload_of-push : (ranges : List WordRange) (range : WordRange) → payload_of (ranges ++ range ∷ []) ≡ payload_of ranges ++ payload_of (range ∷ [])
 unfolding payload_of

@@ -7,70 +7,24 @@ use Rattle.record_layouts.specs.declared.intent.Gate.{Gate}
 use Rattle.record_layouts.specs.declared.intent.Gate.TheVariants.{Closed, Open, Broken}
 use Rattle.record_layouts.specs.declared.memory_map.MemoryMap.{MemoryMap}
 use Rattle.record_layouts.specs.declared.patch.PatchItem.{PatchItem}
-use Rattle.record_layouts.specs.declared.places.RecordId.{RecordId}
-use Rattle.record_layouts.specs.declared.places.RecordId.TheVariants as id
 use Rattle.record_layouts.specs.Held.{Records, with_items}
 use Rattle.record_layouts.specs.Overlay.{Area, IsAllowed, WordRange, gate_of, gate_word, laid, open_ranges, or_none, overlay, payload_of, words_from}
-use Rattle.record_layouts.specs.Patch.{IsPatchItem}
-use Rattle.record_layouts.specs.Places.{first_word, length_of}
-use Rattle.record_layouts.specs.Reading.{is_readable_gate, records_in, words_of}
-use Rattle.record_layouts.specs.Head.{head_in}
-use Rattle.record_layouts.specs.Proc.{proc_in}
-use Rattle.record_layouts.specs.Sig.{sig_in}
-use Rattle.record_layouts.specs.Desc.{desc_in}
-use Rattle.record_layouts.specs.File.{file_in}
-use Rattle.record_layouts.specs.Cache.{cache_in}
-use Rattle.record_layouts.specs.Term.{term_in}
-use Rattle.record_layouts.specs.Row.{row_in}
-use Rattle.record_layouts.specs.Exit.{exit_in}
-use Rattle.record_layouts.specs.Spelling.{lies_between}
-use Rattle.record_layouts.proofs.Intents.{open_ranges_of, words_from-same}
+use Rattle.record_layouts.specs.Patch.{IsPatch}
+use Rattle.record_layouts.specs.Reading.{is_readable_gate, records_in}
+use Rattle.record_layouts.specs.Seam.{AreSpelled}
+use Rattle.record_layouts.proofs.Intents.{open_ranges_of}
+use Rattle.record_layouts.proofs.Seam.{patch_sets}
+use Rattle.record_layouts.proofs.Stores.{block_stays}
 use Rattle.intent_store.specs.Blocks.{IsSeenAs, IsSeenSet, IsShutLike, ReadsAs, is_of_block, opened, rolled, seen}
-use Rattle.intent_store.specs.Payloads.{AreSpelled, IsPayload}
+use Rattle.intent_store.specs.Payloads.{IsPayload}
 use Rattle.intent_store.proofs.Openings.{opened-beside, opened-intent, opened-overlay}
 use Rattle.intent_store.proofs.Payloads.{allowed_by}
-use Rattle.intent_store.proofs.Seams.{records_set}
 
 -- no record has a word of the block
-module _ (some other : Area) (same : (number : ℕ) → is_of_block number ≡ false → some number ≡ other number) where
-  low_same : (number : ℕ) → number < 16 → some number ≡ other number
-  low_same number low = same number (grind (arith, nat_tests))
-
-  high_same : (number : ℕ) → 1024 ≤ number → some number ≡ other number
-  high_same number high = same number (grind (arith, nat_tests))
-
-  words_high : (first count : ℕ) → 1024 ≤ first → words_from some first count ≡ words_from other first count
-  words_high first count high = words_from-same some other first count (λ number from to. high_same number (omega arith))
-
-  words_of-same : (id : RecordId) → words_of some id ≡ words_of other id
-  words_of-same id.Head = words_from-same some other 0 16 (λ number from to. low_same number (omega arith))
-  words_of-same (id.Proc slot) = words_high _ 128 (omega arith)
-  words_of-same (id.Sig slot) = words_high _ 32 (omega arith)
-  words_of-same (id.Desc index) = words_high _ 16 (omega arith)
-  words_of-same (id.File index) = words_high _ 96 (omega arith)
-  words_of-same (id.Cache index) = words_high _ 8 (omega arith)
-  words_of-same (id.Term terminal) = words_high _ 16 (omega arith)
-  words_of-same (id.Row index) = words_high _ 24 (omega arith)
-  words_of-same (id.Exit pid) = words_high _ 4 (omega arith)
-
-  pub records-same : (map : MemoryMap) (is_readable : Bool) → records_in map is_readable some ≡ records_in map is_readable other
-  unfolding records_in
-  records-same map is_readable = λ i. record {
-    map = map;
-    head = if is_readable then head_in (words_of-same id.Head i) else None;
-    procs = λ slot. if nat_lt slot 16 then proc_in (words_of-same (id.Proc slot) i) else None;
-    sigs = λ slot. if nat_lt slot 16 then sig_in (words_of-same (id.Sig slot) i) else None;
-    descs = λ k. if nat_lt k 32 then desc_in (words_of-same (id.Desc k) i) else None;
-    files = λ k. if nat_lt k 32 then file_in (words_of-same (id.File k) i) else None;
-    caches = λ k. if nat_lt k 64 then cache_in (words_of-same (id.Cache k) i) else None;
-    terms = λ tty. if nat_lt tty 2 then term_in (words_of-same (id.Term tty) i) else None;
-    rows = λ k. if nat_lt k 48 then row_in (words_of-same (id.Row k) i) else None;
-    exits = λ pid. if lies_between 1 256 pid then exit_in (words_of-same (id.Exit pid) i) else None;
-    owners = λ k. if nat_lt k map.user_frames then high_same (10 * 1024 + k) (omega arith) i else 0;
-    cache_owners = λ k. if nat_lt k 64 then high_same (10 * 1024 + 960 + k) (omega arith) i else 0;
-    table_words = λ slot table word.
-        if nat_lt slot 16 && nat_lt table 3 && nat_lt word 1024 then high_same (1024 * (16 + 3 * slot + table) + word) (omega arith) i else 0;
-  }
+pub records-same : (some other : Area) → ((number : ℕ) → is_of_block number ≡ false → some number ≡ other number) → (map : MemoryMap) (is_readable : Bool)
+    → records_in map is_readable some ≡ records_in map is_readable other
+records-same some other same map is_readable =
+    block_stays map is_readable some other (λ number low. same number (grind (arith, nat_tests))) (λ number high. same number (grind (arith, nat_tests)))
 
 -- where no intent is open, the area's own words are read
 shut-ranges : (area : Area) → area gate_word ≡ 0 → open_ranges area ≡ None
@@ -103,7 +57,7 @@ pub seen-then : (old middle new : Area) → IsSeenAs old middle → IsSeenAs mid
 seen-then old middle new first second = record { same = λ map. second.same map ∙ first.same map }
 
 -- an intent that is opened sets the records
-module _ (area : Area) (items : List PatchItem) (payload : List ℕ) (shut : area gate_word ≡ 0) (is : IsPayload items payload) (each : All IsPatchItem items) (some : 0 < length payload) (fits : length payload ≤ 1006) where
+module _ (area : Area) (items : List PatchItem) (payload : List ℕ) (shut : area gate_word ≡ 0) (is : IsPayload items payload) (patch : IsPatch items) (some : 0 < length payload) (fits : length payload ≤ 1006) where
   gate-opened : gate_of (opened area payload) ≡ Open
   gate-opened =
       let intent = opened-intent area payload fits is.ranges is.spelled (allowed_by is.ranges items is.sets) some in
@@ -119,7 +73,7 @@ module _ (area : Area) (items : List PatchItem) (payload : List ℕ) (shut : are
   pub seen-opened : (new : Area) → new ≡ opened area payload → IsSeenSet items area new
   seen-opened new e = record {
     set = λ map room. rw e (rw gate-opened (records-same (overlay (opened area payload)) (λ n. laid is.ranges n (area n)) opened-laid map true
-        ∙ records_set map room is.ranges items area is.sets each
+        ∙ patch_sets map room area is.ranges items patch is.sets
         ∙ ap (λ (r : Records). with_items r items) (sym (shut-seen map area shut))));
   }
 
@@ -149,7 +103,7 @@ pub rolled-gate : (old new : Area) → new ≡ rolled old → new gate_word ≡ 
 rolled-gate old new e = rw e (grind (arith, nat_tests))
 
 -- from the area before a commit to that with the intent open
-pub set-opened : (items : List PatchItem) (payload : List ℕ) (old first new : Area) → is_readable_gate (gate_of old) ≡ true → first ≡ rolled old → IsPayload items payload → All IsPatchItem items
+pub set-opened : (items : List PatchItem) (payload : List ℕ) (old first new : Area) → is_readable_gate (gate_of old) ≡ true → first ≡ rolled old → IsPayload items payload → IsPatch items
     → 0 < length payload → length payload ≤ 1006 → new ≡ opened first payload → IsSeenSet items old new
-set-opened items payload old first new readable rolls is each some fits opens =
-    set-after items old first new (seen-rolled old first readable rolls) (seen-opened first items payload (rolled-gate old first rolls) is each some fits new opens)
+set-opened items payload old first new readable rolls is patch some fits opens =
+    set-after items old first new (seen-rolled old first readable rolls) (seen-opened first items payload (rolled-gate old first rolls) is patch some fits new opens)

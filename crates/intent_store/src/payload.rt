@@ -2,7 +2,8 @@
 ghost use Rattle.std.specs.Prelude.{◌≡◌, ℕ, ◌+◌, ◌≤◌, List, length};
 ghost use Rattle.arrayvec.specs.ArrayVec.{array_vec_len};
 ghost use Rattle.record_layouts.specs.Patch.{FitsAny, IsPatch, IsPatchItem};
-ghost use Rattle.intent_store.specs.Payloads.{IsPayload, IsSpelled, SpellsMore};
+ghost use Rattle.record_layouts.specs.Seam.{IsSpelled};
+ghost use Rattle.intent_store.specs.Payloads.{IsPayload, SpellsMore};
 
 use arrayvec::ArrayVec;
 use record_layouts::{AnyRec, Patch, PatchItem, address, records_lie_apart};

@@ -302,3 +302,47 @@ stored_words_set map room some other frame hit value where_it_is less_frame set_
     let shown = set_in_overlay area after frame hit value where_it_is set_there in
     (λ j. records_in map (is_readable_gate (gate j)) (λ number. shown number j))
     ∙ area_words_set map room (is_readable_gate (gate_of area)) (overlay area) frame hit value where_it_is less_frame
+
+-- words behind the area are of no record of it
+module _ (map : MemoryMap) (room : map.user_frames ≤ 384) (area : Area) (frame : ℕ) (hit : ℕ → Bool) (value : ℕ → ℕ) (past : 64 ≤ frame) where
+  behind_table : (s t w : ℕ) → (if nat_lt s 16 && nat_lt t 3 && nat_lt w 1024 then with_frame_words area frame hit value (1024 * (16 + 3 * s + t) + w) else 0)
+      ≡ (if nat_lt s 16 && nat_lt t 3 && nat_lt w 1024 then area (1024 * (16 + 3 * s + t) + w) else 0)
+  behind_table s t w =
+      same_where (nat_lt s 16 && nat_lt t 3 && nat_lt w 1024) _ _
+      (λ holds. let low : 16 + 3 * s + t < 64 = grind (arith, nat_tests) in
+      let small : w < 1024 = grind (arith, nat_tests) in
+      other_frame area frame hit value (1024 * (16 + 3 * s + t) + w) (λ is. omega arith))
+
+  behind_words_stay : (is_readable : Bool) → records_in map is_readable (with_frame_words area frame hit value) ≡ records_in map is_readable area
+  unfolding records_in
+  behind_words_stay is_readable =
+    let after = with_frame_words area frame hit value in
+    let beside = beside_intents area frame hit value (inr (omega arith)) in
+    λ j. record {
+      map = map;
+      head = same_head_read after area beside is_readable j;
+      procs = λ i. same_procs after area beside i j;
+      sigs = λ i. same_sigs after area beside i j;
+      descs = λ i. same_descs after area beside i j;
+      files = λ i. same_files after area beside i j;
+      caches = λ i. same_caches after area beside i j;
+      terms = λ i. same_terms after area beside i j;
+      rows = λ i. same_rows after area beside i j;
+      exits = λ i. same_exits after area beside i j;
+      owners = λ i. owner_stays area frame hit value (nat_lt i map.user_frames) (10240 + i) (omega arith) (λ holds. let less = ltb-true i map.user_frames holds in omega arith) j;
+      cache_owners = λ i. owner_stays area frame hit value (nat_lt i 64) (11200 + i) (omega arith) (λ holds. let less = ltb-true i 64 holds in omega arith) j;
+      table_words = λ s t w. behind_table s t w j;
+    }
+
+pub behind_words_kept : (map : MemoryMap) → map.user_frames ≤ 384 → (some other : WordMap) (frame : ℕ) (hit : ℕ → Bool) (value : ℕ → ℕ) → 64 ≤ frame
+    → ((number : ℕ) → area_at other map.area_base number ≡ with_frame_words (area_at some map.area_base) frame hit value number)
+    → records_of map other ≡ records_of map some
+unfolding records_of
+behind_words_kept map room some other frame hit value past set_there =
+    let area = area_at some map.area_base in
+    let after = area_at other map.area_base in
+    let where_it_is : (frame ≡ 10) ⊎ (12 ≤ frame) = inr (omega arith) in
+    let gate = same_gate area after frame hit value where_it_is set_there in
+    let shown = set_in_overlay area after frame hit value where_it_is set_there in
+    (λ j. records_in map (is_readable_gate (gate j)) (λ number. shown number j))
+    ∙ behind_words_stay map room (overlay area) frame hit value past (is_readable_gate (gate_of area))

@@ -26,14 +26,14 @@ pub roll_forward-requires-2-clause-readable : goal.roll_forward-requires-2-claus
 roll_forward-requires-2-clause-readable g c =
     let is = subst (λ (ws : List ℕ). IsPayload c.args.patch.now.items.items ws) (sym c.as_slice.ensures.value) c.payload-payload.ensures in
     let some : 0 < length c.as_slice.result.now = rw c.as_slice.ensures.value (grind (arith, nat_tests)) in
-    readable-opened _ c.args.patch.now.items.items c.as_slice.result.now (rolled-gate _ _ c.in_ok-roll_forward.ensures.ok) is c.requires.patch.each some c.as_slice.ensures.fits _ c.in_ok-open.ensures.ok
+    readable-opened _ c.args.patch.now.items.items c.as_slice.result.now (rolled-gate _ _ c.in_ok-roll_forward.ensures.ok) is c.requires.patch some c.as_slice.ensures.fits _ c.in_ok-open.ensures.ok
 
 pub returns-clause-ok : goal.returns-clause-ok
 returns-clause-ok g c =
     let is = subst (λ (ws : List ℕ). IsPayload c.args.patch.now.items.items ws) (sym c.as_slice.ensures.value) c.payload-payload.ensures in
     let some : 0 < length c.as_slice.result.now = rw c.as_slice.ensures.value (grind (arith, nat_tests)) in
-    let set = set-opened c.args.patch.now.items.items c.as_slice.result.now _ _ _ c.requires.readable c.in_ok-roll_forward.ensures.ok is c.requires.patch.each some c.as_slice.ensures.fits c.in_ok-open.ensures.ok in
-    let readable = readable-opened _ c.args.patch.now.items.items c.as_slice.result.now (rolled-gate _ _ c.in_ok-roll_forward.ensures.ok) is c.requires.patch.each some c.as_slice.ensures.fits _ c.in_ok-open.ensures.ok in
+    let set = set-opened c.args.patch.now.items.items c.as_slice.result.now _ _ _ c.requires.readable c.in_ok-roll_forward.ensures.ok is c.requires.patch some c.as_slice.ensures.fits c.in_ok-open.ensures.ok in
+    let readable = readable-opened _ c.args.patch.now.items.items c.as_slice.result.now (rolled-gate _ _ c.in_ok-roll_forward.ensures.ok) is c.requires.patch some c.as_slice.ensures.fits _ c.in_ok-open.ensures.ok in
     on_ok c.roll_forward-2.result _ _ (λ e. set-before c.args.patch.now.items.items _ _ _ set (seen-rolled _ _ readable e)) c.roll_forward-2.ensures.ok
 
 pub returns-clause-shut : goal.returns-clause-shut
@@ -43,5 +43,5 @@ pub returns-clause-err : goal.returns-clause-err
 returns-clause-err g c =
     let is = subst (λ (ws : List ℕ). IsPayload c.args.patch.now.items.items ws) (sym c.as_slice.ensures.value) c.payload-payload.ensures in
     let some : 0 < length c.as_slice.result.now = rw c.as_slice.ensures.value (grind (arith, nat_tests)) in
-    let set = set-opened c.args.patch.now.items.items c.as_slice.result.now _ _ _ c.requires.readable c.in_ok-roll_forward.ensures.ok is c.requires.patch.each some c.as_slice.ensures.fits c.in_ok-open.ensures.ok in
+    let set = set-opened c.args.patch.now.items.items c.as_slice.result.now _ _ _ c.requires.readable c.in_ok-roll_forward.ensures.ok is c.requires.patch some c.as_slice.ensures.fits c.in_ok-open.ensures.ok in
     on_err c.roll_forward-2.result _ _ (λ e. inr (set-before c.args.patch.now.items.items _ _ _ set (seen-reads _ _ e))) c.roll_forward-2.ensures.err
