@@ -122,7 +122,7 @@ status_now : (exits : ℕ → Option ExitRec) (pid status q : ℕ) → status_by
 status_now exits pid status q = elim (cases_Bool (q == pid)) [ inl same ↦ rw same refl | inr other ↦ rw other refl ]
 
 -- where a record of an ended process is
-ended_there : (held : Option ProcRec) (pid : ℕ) → is_ended_as pid held ≡ true → (other : ProcRec) × (held ≡ Some other) × (other.state ≡ 3) × (other.pid ≡ pid)
+pub ended_there : (held : Option ProcRec) (pid : ℕ) → is_ended_as pid held ≡ true → (other : ProcRec) × (held ≡ Some other) × (other.state ≡ 3) × (other.pid ≡ pid)
 ended_there (Some other) pid ended = (other, refl, grind (arith, nat_tests, ended), grind (arith, nat_tests, ended))
 ended_there None pid ended = absurd (cc ended)
 

@@ -70,3 +70,12 @@ least_passes test first zero n found = cc
 least_passes test first (suc count) n found = elim (cases_Bool (test first)) [
     inl here ↦ let same : first ≡ n = cc (rw here at found) in rw (← same) here
   | inr fails ↦ least_passes test (first + 1) count n (rw fails at found) ]
+
+pub least_within : (test : ℕ → Bool) (first count n : ℕ) → least_from test first count ≡ Some n → (first ≤ n) × (n < first + count)
+unfolding least_from
+least_within test first zero n found = absurd (cc found)
+least_within test first (suc count) n found = elim (cases_Bool (test first)) [
+    inl here ↦ let same : first ≡ n = cc (rw here at found) in (omega (arith, same), omega (arith, same))
+  | inr fails ↦
+      let later = least_within test (first + 1) count n (rw fails at found) in
+      (omega (arith, later.0), omega (arith, later.1)) ]

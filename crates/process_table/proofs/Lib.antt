@@ -13,3 +13,5 @@ pub mod EndedUnix
 pub mod Changes
 pub mod ChangedUnix
 pub mod Saving
+pub mod Running
+pub mod Chosen
