@@ -61,9 +61,9 @@ ended_apart exit slot ended live same state =
     grind (arith, nat_tests, held)
 
 -- a process that has ended was there before, and is another
-ended_before : (r : Records) (head : HeadRec) (slot : ℕ) (process : ProcRec) (status : ℕ) (place : ℕ) (other : ProcRec) → AreNumbered r → IsIn r slot process
+pub ended_before : (r : Records) (slot : ℕ) (process : ProcRec) (place : ℕ) (other : ProcRec) → AreNumbered r → IsIn r slot process
     → r.procs place ≡ Some other → other.state ≡ 3 → other.pid ≡ process.pid → ⊥
-ended_before r head slot process status place other numbered is there state same =
+ended_before r slot process place other numbered is there state same =
     let record_of = numbered.ended place other there state in
     let exit : slot_by (r.exits other.pid) ≡ Some slot = subst (λ (p : ℕ). slot_by (r.exits p) ≡ Some slot) (sym same) (numbered.exit slot process is) in
     ended_apart (r.exits other.pid) slot record_of.0 exit record_of.1 record_of.2
@@ -92,7 +92,7 @@ ended_now r head slot process status trap place other numbered is there state = 
       (ended_exit status, subst (λ (p : ℕ). updated r.exits process.pid (Some (ended_exit status)) p ≡ Some (ended_exit status)) same (set_here r.exits process.pid (Some (ended_exit status))), refl)
   | inr before ↦
       let held = numbered.ended place other before.1 state in
-      let apart = ended_before r head slot process status place other numbered is before.1 state in
+      let apart = ended_before r slot process place other numbered is before.1 state in
       (held.0, set_other r.exits process.pid (Some (ended_exit status)) other.pid apart ∙ held.1, held.2) ]
 
 one_ended_now : (r : Records) (head : HeadRec) (slot : ℕ) (process : ProcRec) (status trap : ℕ) (place third : ℕ) (other another : ProcRec) → AreNumbered r → IsIn r slot process
@@ -102,9 +102,9 @@ one_ended_now r head slot process status trap place third other another numbered
     elim (where_held r.procs slot place (ended_process process status) other there) [
       inl here ↦ elim (where_held r.procs slot third (ended_process process status) another too) [
         inl here_too ↦ here.0 ∙ sym here_too.0
-      | inr before ↦ absurd (ended_before r head slot process status third another numbered is before.1 states (sym same ∙ ap (λ (p : ProcRec). p.pid) here.1)) ]
+      | inr before ↦ absurd (ended_before r slot process third another numbered is before.1 states (sym same ∙ ap (λ (p : ProcRec). p.pid) here.1)) ]
     | inr before ↦ elim (where_held r.procs slot third (ended_process process status) another too) [
-        inl here_too ↦ absurd (ended_before r head slot process status place other numbered is before.1 state (same ∙ ap (λ (p : ProcRec). p.pid) here_too.1))
+        inl here_too ↦ absurd (ended_before r slot process place other numbered is before.1 state (same ∙ ap (λ (p : ProcRec). p.pid) here_too.1))
       | inr before_too ↦ numbered.one_ended place third other another before.1 before_too.1 state states same ] ]
 
 used_now : (r : Records) (head : HeadRec) (slot : ℕ) (process : ProcRec) (status : ℕ) (pid : ℕ) → AreNumbered r → r.head ≡ Some head → IsIn r slot process

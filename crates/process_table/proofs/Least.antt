@@ -62,3 +62,11 @@ pub least_by : (test : ℕ → Bool) (first count : ℕ) (result : Option ℕ) �
     → IfNone result (NonePasses test first (first + count)) → result ≡ least_from test first count
 least_by test first count (Some n) some none = sym (least_found test first count (first + count) n refl some)
 least_by test first count None some none = sym (least_none test first count (first + count) refl none)
+
+-- what is found passes, and nothing before it
+pub least_passes : (test : ℕ → Bool) (first count n : ℕ) → least_from test first count ≡ Some n → test n ≡ true
+unfolding least_from
+least_passes test first zero n found = cc
+least_passes test first (suc count) n found = elim (cases_Bool (test first)) [
+    inl here ↦ let same : first ≡ n = cc (rw here at found) in rw (← same) here
+  | inr fails ↦ least_passes test (first + 1) count n (rw fails at found) ]

@@ -9,3 +9,7 @@ pub mod Regions
 pub mod Kept
 pub mod Endings
 pub mod EndedSound
+pub mod EndedUnix
+pub mod Changes
+pub mod ChangedUnix
+pub mod Saving
