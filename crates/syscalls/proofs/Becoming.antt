@@ -111,12 +111,15 @@ child_same : (held : Option ProcRec) (ps : ℕ → Option Process) (pid : ℕ) (
 child_same (Some process) ps pid was is there = rw (live_same ps pid was is process.parent there) refl
 child_same None ps pid was is there = refl
 
+-- the records in which a process is this, and the trap is done
+abbrev pub becoming : Records → HeadRec → (slot pid : ℕ) → ProcRec → (ℕ → Option TermRec) → (ℕ → Option RowRec) → (trap : ℕ) → Records
+becoming r head slot pid after terms rows trap = altered r (Some (record head { served = trap; last = pid })) (updated r.procs slot (Some after)) terms rows
+
 module _ (r : Records) (head : HeadRec) (slot : ℕ) (process after : ProcRec) (terms : ℕ → Option TermRec) (rows : ℕ → Option RowRec) (trap : ℕ)
     (words : WordMap) (context : Context) (sound : AreSound r) (is_head : r.head ≡ Some head) (is : IsIn r slot process) (of : IsOf context process.pid) (next : IsAfter process after) where
 
-  -- the records in which it is another
-  abbrev pub become : Records
-  become = altered r (Some (record head { served = trap; last = process.pid })) (updated r.procs slot (Some after)) terms rows
+  abbrev become : Records
+  become = becoming r head slot process.pid after terms rows trap
 
   -- the state before, and the process after
   abbrev before : ℕ → Option Process
@@ -222,7 +225,7 @@ module _ (r : Records) (head : HeadRec) (slot : ℕ) (process after : ProcRec) (
 
   -- the state that the records then stand for, with these tapes
   pub becomes : (tapes then_tapes : ℕ → List ℕ) (steps traps : ℕ)
-      → unix_of become words then_tapes InKernel (steps + 1) (traps + 1)
+      → unix_of (becoming r head slot process.pid after terms rows trap) words then_tapes InKernel (steps + 1) (traps + 1)
       ≡ record (with_process (trapped (unix_of r words tapes context steps traps) process.pid) process.pid (process_of r words slot after))
           { terminals = λ tty. terminal_by (then_tapes tty) (terms tty) }
   unfolding unix_of trapped

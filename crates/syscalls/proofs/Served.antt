@@ -1,5 +1,5 @@
 -- What a call makes of the records is what it makes of the state that they stand for.
-use Rattle.std.proofs.Common.{◌≡◌, ◌≢◌, ◌==◌, ◌×◌, if◌then◌else◌, ℕ, ◌+◌, ◌-◌, ◌%◌, ◌<◌, ◌≤◌, Bool, true, false, nat_lt, not, List, [], ◌∷◌, map, Option, Some, None, IfSome, inl, inr, refl, sym, ap, subst, ◌∙◌, arith}
+use Rattle.std.proofs.Common.{◌≡◌, ◌≢◌, ◌==◌, if◌then◌else◌, ℕ, ◌+◌, ◌-◌, ◌%◌, ◌<◌, ◌≤◌, Bool, true, false, nat_lt, not, List, [], ◌∷◌, map, Option, Some, None, IfSome, inl, inr, refl, sym, ap, subst, ◌∙◌, arith}
 use Rattle.std.proofs.lemmas.Bool.{cases_Bool}
 use Rattle.std.proofs.lemmas.Bool.Decides.{nat_tests}
 use Rattle.std.proofs.lemmas.Grind.{common_steps}
@@ -12,7 +12,7 @@ use Rattle.record_layouts.specs.declared.head.HeadRec.{HeadRec}
 use Rattle.record_layouts.specs.declared.proc.ProcRec.{ProcRec}
 use Rattle.record_layouts.specs.declared.desc.DescRec.{DescRec}
 use Rattle.record_layouts.specs.declared.patch.PatchItem.{PatchItem}
-use Rattle.record_layouts.specs.Unix.{Unix, Process, Out, In, Description, OnTty, OnFile}
+use Rattle.record_layouts.specs.Unix.{Unix, Process, Terminal, Out, In, Description, OnTty, OnFile}
 use Rattle.record_layouts.specs.Calls.{answered, called, description_of, entered, piece_of, stays_in, stopped, trapped, tty_piece, tty_write, with_process, write_entry, write_on, write_through, written_on, written_to, yield_entry, getpid_entry}
 use Rattle.record_layouts.specs.Held.{Records, with_items}
 use Rattle.record_layouts.specs.Pages.{is_live, pages_of}
@@ -24,7 +24,7 @@ use Rattle.process_table.proofs.Seats.{pid_range}
 use Rattle.syscalls.specs.Planned.{Planned, PlanOnce, PlanWrite, answered_process, argument_of, caller_with, is_written, items_of, named, planned_answer, planned_tty, planned_write, planned_write_on, staying_process, stopped_answer, written_process, yielded_process}
 use Rattle.syscalls.specs.Done.{AreWritten, IsDone}
 use Rattle.syscalls.specs.Serving.{AreOnTerminals}
-use Rattle.syscalls.proofs.Becoming.{IsAfter, IsOf, bank_by, become, becomes, caller_decodes}
+use Rattle.syscalls.proofs.Becoming.{IsAfter, IsOf, bank_by, becoming, becomes, caller_decodes}
 use Rattle.syscalls.proofs.Written.{terminals_then}
 use Rattle.syscalls.proofs.Described.{described, described_as, description_is}
 
@@ -48,8 +48,8 @@ module _ (r : Records) (head : HeadRec) (slot : ℕ) (process : ProcRec) (trap :
   ends_once : (after : ProcRec) → IsAfter process after → Ends (with_items r (items_of (caller_with slot trap head saved) after)) tapes (with_process state process.pid (process_of r words slot after))
   unfolding unix_of trapped
   ends_once after next =
-      let pid : Ends (with_items r (items_of (caller_with slot trap head saved) after)) tapes (unix_of (become r head slot process after r.terms r.rows trap) words tapes InKernel (steps + 1) (traps + 1)) =
-          ap (λ (p : ℕ). unix_of (become r head slot (record process { pid = p }) after r.terms r.rows trap) words tapes InKernel (steps + 1) (traps + 1)) next.pid in
+      let pid : Ends (with_items r (items_of (caller_with slot trap head saved) after)) tapes (unix_of (becoming r head slot process.pid after r.terms r.rows trap) words tapes InKernel (steps + 1) (traps + 1)) =
+          ap (λ (p : ℕ). unix_of (becoming r head slot p after r.terms r.rows trap) words tapes InKernel (steps + 1) (traps + 1)) next.pid in
       pid ∙ becomes r head slot process after r.terms r.rows trap words context sound is_head is of next tapes tapes steps traps
 
   ends_written : (after : ProcRec) (tty : ℕ) (bytes : List ℕ) (written : Records) (done_tapes : ℕ → List ℕ) → IsAfter process after → AreWritten r tapes tty bytes written done_tapes
@@ -60,8 +60,61 @@ module _ (r : Records) (head : HeadRec) (slot : ℕ) (process : ProcRec) (trap :
       let rest : Ends (with_items written items) done_tapes (unix_of (with_items (record r { terms = written.terms; rows = written.rows }) items) words done_tapes InKernel (steps + 1) (traps + 1)) =
           ap (λ (x : Records). unix_of (with_items x items) words done_tapes InKernel (steps + 1) (traps + 1)) are.rest in
       let pid : unix_of (with_items (record r { terms = written.terms; rows = written.rows }) items) words done_tapes InKernel (steps + 1) (traps + 1)
-          ≡ unix_of (become r head slot process after written.terms written.rows trap) words done_tapes InKernel (steps + 1) (traps + 1) =
-          ap (λ (p : ℕ). unix_of (become r head slot (record process { pid = p }) after written.terms written.rows trap) words done_tapes InKernel (steps + 1) (traps + 1)) next.pid in
+          ≡ unix_of (becoming r head slot process.pid after written.terms written.rows trap) words done_tapes InKernel (steps + 1) (traps + 1) =
+          ap (λ (p : ℕ). unix_of (becoming r head slot p after written.terms written.rows trap) words done_tapes InKernel (steps + 1) (traps + 1)) next.pid in
       rest ∙ (pid ∙ (becomes r head slot process after written.terms written.rows trap words context sound is_head is of next tapes done_tapes steps traps
-      ∙ ap (λ (ts : ℕ → Rattle.record_layouts.specs.Unix.Terminal). record (with_process state process.pid (process_of r words slot after)) { terminals = ts })
+      ∙ ap (λ (ts : ℕ → Terminal). record (with_process state process.pid (process_of r words slot after)) { terminals = ts })
           (terminals_then r tapes tty bytes written done_tapes are)))
+
+  -- what the process then decodes to
+  outside : (after : ProcRec) → after.state ≡ 1 → after.code_pages ≡ process.code_pages → after.data_pages ≡ process.data_pages → after.brk ≡ process.brk → SameRegions after process
+  outside after state code values brk = record { live = rw state refl; lives = is.live; code = code; values = values; brk = brk }
+
+  inside : (after : ProcRec) → after.state ≡ 2 → after.code_pages ≡ process.code_pages → after.data_pages ≡ process.data_pages → after.brk ≡ process.brk → SameRegions after process
+  inside after state code values brk = record { live = rw state refl; lives = is.live; code = code; values = values; brk = brk }
+
+  answer_regions : (answer : ℕ) → SameRegions (answered_process saved answer) process
+  answer_regions answer = outside (answered_process saved answer) refl refl refl refl
+
+  answer_after : (answer : ℕ) → IsAfter process (answered_process saved answer)
+  answer_after answer = record { pid = refl; parent = refl; status = refl; descs = refl; regions = answer_regions answer }
+
+  answer_is : (u : Unix) (answer : ℕ) → with_process u process.pid (process_of r words slot (answered_process saved answer)) ≡ answered u process.pid caller answer
+  unfolding answered process_of
+  answer_is u answer = ap (with_process u process.pid) (λ i. record (process_of r words slot (answered_process saved answer)) { pages = pages_same r words slot (answered_process saved answer) process (answer_regions answer) i })
+
+  yield_regions : SameRegions (yielded_process saved) process
+  yield_regions = outside (yielded_process saved) refl refl refl refl
+
+  yield_after : IsAfter process (yielded_process saved)
+  yield_after = record { pid = refl; parent = refl; status = refl; descs = refl; regions = yield_regions }
+
+  yield_is : (u : Unix) → with_process u process.pid (process_of r words slot (yielded_process saved)) ≡ yield_entry u process.pid caller
+  unfolding yield_entry process_of
+  yield_is u = ap (with_process u process.pid) (λ i. record (process_of r words slot (yielded_process saved)) { pages = pages_same r words slot (yielded_process saved) process yield_regions i })
+
+  stay_regions : (done : ℕ) → SameRegions (staying_process saved done) process
+  stay_regions done = inside (staying_process saved done) refl refl refl refl
+
+  stay_after : (done : ℕ) → IsAfter process (staying_process saved done)
+  stay_after done = record { pid = refl; parent = refl; status = refl; descs = refl; regions = stay_regions done }
+
+  stay_is : (u : Unix) (done : ℕ) → with_process u process.pid (process_of r words slot (staying_process saved done)) ≡ stays_in u process.pid caller 2 done
+  unfolding stays_in process_of
+  stay_is u done = ap (with_process u process.pid) (λ i. record (process_of r words slot (staying_process saved done)) { pages = pages_same r words slot (staying_process saved done) process (stay_regions done) i })
+
+  -- a call that is served at once
+  served_once : (after : ProcRec) (done : Records) (done_tapes : ℕ → List ℕ) → IsAfter process after → IsDone r words tapes slot process (PlanOnce (items_of (caller_with slot trap head saved) after)) done done_tapes
+      → Ends done done_tapes (with_process state process.pid (process_of r words slot after))
+  served_once after done done_tapes next served =
+      ap (λ (x : Records). unix_of x words done_tapes InKernel (steps + 1) (traps + 1)) served.0
+      ∙ (ap (λ (ts : ℕ → List ℕ). unix_of (with_items r (items_of (caller_with slot trap head saved) after)) words ts InKernel (steps + 1) (traps + 1)) served.1
+      ∙ ends_once after next)
+
+  pub served_answer : (answer : ℕ) (done : Records) (done_tapes : ℕ → List ℕ) → IsDone r words tapes slot process (planned_answer (caller_with slot trap head saved) answer) done done_tapes
+      → Ends done done_tapes (answered state process.pid caller answer)
+  served_answer answer done done_tapes served = served_once (answered_process saved answer) done done_tapes (answer_after answer) served ∙ answer_is state answer
+
+  pub served_yield : (done : Records) (done_tapes : ℕ → List ℕ) → IsDone r words tapes slot process (PlanOnce (items_of (caller_with slot trap head saved) (yielded_process saved))) done done_tapes
+      → Ends done done_tapes (yield_entry state process.pid caller)
+  served_yield done done_tapes served = served_once (yielded_process saved) done done_tapes yield_after served ∙ yield_is state
