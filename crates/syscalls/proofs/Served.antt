@@ -1,6 +1,6 @@
 -- What a call makes of the records is what it makes of the state that they stand for.
 use Rattle.std.proofs.Common.{◌≡◌, ◌≢◌, ◌==◌, if◌then◌else◌, ℕ, ◌+◌, ◌-◌, ◌%◌, ◌<◌, ◌≤◌, Bool, true, false, nat_lt, not, List, [], ◌∷◌, map, Option, Some, None, IfSome, inl, inr, refl, sym, ap, subst, ◌∙◌, arith}
-use Rattle.std.proofs.lemmas.Bool.{cases_Bool}
+use Rattle.std.proofs.lemmas.Bool.{cases_Bool, ne_eqb}
 use Rattle.std.proofs.lemmas.Bool.Decides.{nat_tests}
 use Rattle.std.proofs.lemmas.Grind.{common_steps}
 use Rattle.ow_base.specs.Sv32.{WordMap}
@@ -118,3 +118,74 @@ module _ (r : Records) (head : HeadRec) (slot : ℕ) (process : ProcRec) (trap :
   pub served_yield : (done : Records) (done_tapes : ℕ → List ℕ) → IsDone r words tapes slot process (PlanOnce (items_of (caller_with slot trap head saved) (yielded_process saved))) done done_tapes
       → Ends done done_tapes (yield_entry state process.pid caller)
   served_yield done done_tapes served = served_once (yielded_process saved) done done_tapes yield_after served ∙ yield_is state
+
+  -- a piece of a write: what is left of it is answered, or the process stays
+  written_after : (count done : ℕ) → IsAfter process (written_process saved count done)
+  written_after count done = elim (cases_Bool (done == count)) [
+      inl last ↦ rw last (answer_after count)
+    | inr more ↦ rw more (stay_after done) ]
+
+  written_is : (u : Unix) (count done : ℕ) → with_process u process.pid (process_of r words slot (written_process saved count done)) ≡ written_to u process.pid caller count done
+  written_is u count done = elim (cases_Bool (done == count)) [
+      inl last ↦ rw last (answer_is u count)
+    | inr more ↦ rw more (stay_is u done) ]
+
+  served_piece : (tty from count len done : ℕ) (now : Records) (now_tapes : ℕ → List ℕ)
+      → IsDone r words tapes slot process (PlanWrite tty from len (items_of (caller_with slot trap head saved) (written_process saved count done))) now now_tapes
+      → Ends now now_tapes (written_to (written_on state tty (bytes_at (pages_of r words slot process) from len)) process.pid caller count done)
+  served_piece tty from count len done now now_tapes served =
+      let bytes = bytes_at (pages_of r words slot process) from len in
+      ap (λ (x : Records). unix_of x words now_tapes InKernel (steps + 1) (traps + 1)) served.2
+      ∙ (ends_written (written_process saved count done) tty bytes served.0 now_tapes (written_after count done) served.1
+      ∙ written_is (written_on state tty bytes) count done)
+
+  piece_by : (test : Bool) (tty from count len done answer : ℕ) (now : Records) (now_tapes : ℕ → List ℕ)
+      → IsDone r words tapes slot process
+          (if test then PlanWrite tty from len (items_of (caller_with slot trap head saved) (written_process saved count done)) else planned_answer (caller_with slot trap head saved) answer) now now_tapes
+      → Ends now now_tapes
+          (if test then written_to (written_on state tty (bytes_at (pages_of r words slot process) from len)) process.pid caller count done else answered state process.pid caller answer)
+  piece_by true tty from count len done answer now now_tapes served = served_piece tty from count len done now now_tapes served
+  piece_by false tty from count len done answer now now_tapes served = served_answer answer now now_tapes served
+
+  pub served_tty : (tty done : ℕ) (now : Records) (now_tapes : ℕ → List ℕ)
+      → IsDone r words tapes slot process (planned_tty (pages_of r words slot process) (caller_with slot trap head saved) tty done) now now_tapes
+      → Ends now now_tapes (tty_write state process.pid caller tty done)
+  unfolding planned_tty tty_write process_of
+  served_tty tty done now now_tapes served =
+      let from = argument_of saved 1 + done in
+      let count = argument_of saved 2 in
+      let len = tty_piece count done in
+      piece_by (is_readable (pages_of r words slot process) from len) tty from count len (done + len) (stopped_answer done 14) now now_tapes served
+
+  -- what is written on, where it is on a terminal
+  on_tty : (d : DescRec) → d.object ≢ 1 → object_of d ≡ OnTty d.index
+  on_tty d other = rw (ne_eqb d.object 1 other) refl
+
+  served_on : (d : DescRec) (done : ℕ) (now : Records) (now_tapes : ℕ → List ℕ) → d.object ≢ 1
+      → IsDone r words tapes slot process (planned_tty (pages_of r words slot process) (caller_with slot trap head saved) d.index done) now now_tapes
+      → Ends now now_tapes (write_on state process.pid caller done (described_as d).object)
+  served_on d done now now_tapes other served = served_tty d.index done now now_tapes served ∙ sym (ap (write_on state process.pid caller done) (on_tty d other))
+
+  -- write
+  write_by : (held : Option DescRec) (now : Records) (now_tapes : ℕ → List ℕ) → IfSome held (λ d. d.object ≢ 1)
+      → IsDone r words tapes slot process (planned_write_on (pages_of r words slot process) (caller_with slot trap head saved) held) now now_tapes
+      → Ends now now_tapes (write_through state process.pid caller (described held))
+  unfolding planned_write_on
+  write_by None now now_tapes other served = served_answer (minus 9) now now_tapes served
+  write_by (Some d) now now_tapes other served = elim (cases_Bool (is_written d)) [
+      inl writes ↦ elim (cases_Bool (nat_lt 0x7fffffff (argument_of saved 2))) [
+          inl many ↦ rw (writes, many) (served_answer (minus 22) now now_tapes (rw (writes, many) at served))
+        | inr few ↦ elim (cases_Bool (argument_of saved 2 == 0)) [
+            inl none ↦ rw (writes, few, none) (served_answer 0 now now_tapes (rw (writes, few, none) at served))
+          | inr some ↦ rw (writes, few, some) (served_on d 0 now now_tapes other (rw (writes, few, some) at served)) ] ]
+    | inr reads ↦ rw reads (served_answer (minus 9) now now_tapes (rw reads at served)) ]
+
+  -- what a descriptor of the caller names
+  caller_there : processes_of r words context process.pid ≡ Some caller
+  caller_there = caller_decodes r words context slot process sound is of
+
+  names : (fd : ℕ) → description_of state caller fd ≡ described (named r process.descs fd)
+  unfolding description_of trapped unix_of process_of
+  names fd =
+      let range = pid_range r slot process sound.values is in
+      description_is r (processes_of r words context) process.pid caller process.descs fd caller_there refl range.0 range.1
