@@ -11,12 +11,12 @@ use Rattle.record_layouts.specs.declared.head.HeadRec.{HeadRec}
 use Rattle.record_layouts.specs.declared.proc.ProcRec.{ProcRec}
 use Rattle.record_layouts.specs.declared.term.TermRec.{TermRec}
 use Rattle.record_layouts.specs.declared.row.RowRec.{RowRec}
-use Rattle.record_layouts.specs.Unix.{Unix, Process, EndedChild, Description, in_use, is_named, is_named_by}
+use Rattle.record_layouts.specs.Unix.{Unix, AtKernel, Process, EndedChild, Description, in_use, is_named, is_named_by}
 use Rattle.record_layouts.specs.Calls.{trapped, with_process}
 use Rattle.record_layouts.specs.Choice.{least_from}
 use Rattle.record_layouts.specs.Held.{Records, with_items}
 use Rattle.record_layouts.specs.Pages.{is_live, is_mapped}
-use Rattle.record_layouts.specs.Decode.{Context, InKernel, InUser, slot_by, is_number, pid_in, decodes, description_by, ended_by, ended_in, ended_of, is_ended_as, next_by, last_by, process_at, process_of, processes_of, terminal_by, unix_of, with_bank}
+use Rattle.record_layouts.specs.Decode.{Context, InKernel, InUser, slot_by, is_number, pid_in, decodes, description_by, ended_by, ended_in, ended_of, is_ended_as, status_by, next_by, last_by, process_at, process_of, processes_of, terminal_by, unix_of, with_bank}
 use Rattle.record_layouts.specs.Sound.{IsIn, AreSound}
 use Rattle.process_table.specs.Patches.{bank_of, head_item, process_item}
 use Rattle.process_table.proofs.Kept.{set_here, set_other, same_or_not}
@@ -98,12 +98,28 @@ live_same ps pid old new q there = elim (same_or_not q pid) [
         (ap is_some (set_here ps pid (Some new)) ∙ sym (ap is_some there))
   | inr apart ↦ ap is_some (set_other ps pid (Some new) q apart) ]
 
+-- a live process has not ended
+not_ended : (q : ℕ) (process : ProcRec) → is_live process ≡ true → is_ended_as q (Some process) ≡ false
+not_ended q process live = grind (arith, nat_tests, live)
+
+-- whose child a process was when it ended
+child_of_it : (new old : ProcRec) (ps : ℕ → Option Process) (pid : ℕ) (was is : Process) → ps pid ≡ Some was → new.parent ≡ old.parent → new.status ≡ old.status
+    → ended_by (updated ps pid (Some is)) (Some new) ≡ ended_by ps (Some old)
+child_of_it new old ps pid was is there parent status = rw (parent, status) (rw (live_same ps pid was is old.parent there) refl)
+
+child_same : (held : Option ProcRec) (ps : ℕ → Option Process) (pid : ℕ) (was is : Process) → ps pid ≡ Some was → ended_by (updated ps pid (Some is)) held ≡ ended_by ps held
+child_same (Some process) ps pid was is there = rw (live_same ps pid was is process.parent there) refl
+child_same None ps pid was is there = refl
+
+-- the records in which a process is this, and the trap is done
+abbrev pub becoming : Records → HeadRec → (slot pid : ℕ) → ProcRec → (ℕ → Option TermRec) → (ℕ → Option RowRec) → (trap : ℕ) → Records
+becoming r head slot pid after terms rows trap = altered r (Some (record head { served = trap; last = pid })) (updated r.procs slot (Some after)) terms rows
+
 module _ (r : Records) (head : HeadRec) (slot : ℕ) (process after : ProcRec) (terms : ℕ → Option TermRec) (rows : ℕ → Option RowRec) (trap : ℕ)
     (words : WordMap) (context : Context) (sound : AreSound r) (is_head : r.head ≡ Some head) (is : IsIn r slot process) (of : IsOf context process.pid) (next : IsAfter process after) where
 
-  -- the records in which it is another
-  abbrev pub become : Records
-  become = altered r (Some (record head { served = trap; last = process.pid })) (updated r.procs slot (Some after)) terms rows
+  abbrev become : Records
+  become = becoming r head slot process.pid after terms rows trap
 
   -- the state before, and the process after
   abbrev before : ℕ → Option Process
@@ -152,3 +168,77 @@ module _ (r : Records) (head : HeadRec) (slot : ℕ) (process after : ProcRec) (
   processes_then q = elim (same_or_not q process.pid) [
       inl equal ↦ subst (λ (k : ℕ). process_at become words k ≡ updated before process.pid (Some then_is) k) (sym equal) (here ∙ sym (set_here before process.pid (Some then_is)))
     | inr apart ↦ others_stay q apart ∙ (sym (others_are r words context process.pid q of apart) ∙ sym (set_other before process.pid (Some then_is) q apart)) ]
+
+  processes_are : processes_of become words InKernel ≡ updated before process.pid (Some then_is)
+  unfolding processes_of
+  processes_are = λ i q. processes_then q i
+
+  caller : Process
+  caller = record (process_of r words slot process) { bank = bank_by context process }
+
+  caller_there : before process.pid ≡ Some caller
+  unfolding caller
+  caller_there = caller_decodes r words context slot process sound is of
+
+  -- descriptions that are in use
+  same_descriptors : then_is.descriptors ≡ caller.descriptors
+  unfolding caller process_of
+  same_descriptors = rw next.descs refl
+
+  described_then : (number : ℕ) → in_use (updated before process.pid (Some then_is)) (λ n. description_by (r.descs n)) number ≡ in_use before (λ n. description_by (r.descs n)) number
+  described_then number = in_use_same before process.pid caller then_is (λ n. description_by (r.descs n)) number caller_there same_descriptors
+
+  -- ended children
+  test_then : (q place : ℕ) → is_ended_as q (updated r.procs slot (Some after) place) ≡ is_ended_as q (r.procs place)
+  test_then q place = elim (same_or_not place slot) [
+      inl equal ↦ subst (λ (k : ℕ). is_ended_as q (updated r.procs slot (Some after) k) ≡ is_ended_as q (r.procs k)) (sym equal)
+          (ap (is_ended_as q) (set_here r.procs slot (Some after)) ∙ (not_ended q after next.regions.live ∙ sym (ap (is_ended_as q) is.there ∙ not_ended q process is.live)))
+    | inr apart ↦ ap (is_ended_as q) (set_other r.procs slot (Some after) place apart) ]
+
+  child_then : (place : ℕ) → ended_by (updated before process.pid (Some then_is)) (updated r.procs slot (Some after) place) ≡ ended_by before (r.procs place)
+  child_then place = elim (same_or_not place slot) [
+      inl equal ↦ subst (λ (k : ℕ). ended_by (updated before process.pid (Some then_is)) (updated r.procs slot (Some after) k) ≡ ended_by before (r.procs k)) (sym equal)
+          (ap (ended_by (updated before process.pid (Some then_is))) (set_here r.procs slot (Some after))
+          ∙ (child_of_it after process before process.pid caller then_is caller_there next.parent next.status ∙ sym (ap (ended_by before) is.there)))
+    | inr apart ↦ ap (ended_by (updated before process.pid (Some then_is))) (set_other r.procs slot (Some after) place apart)
+          ∙ child_same (r.procs place) before process.pid caller then_is caller_there ]
+
+  ended_in_then : (held : Option ℕ) → ended_in become (updated before process.pid (Some then_is)) held ≡ ended_in r before held
+  ended_in_then (Some place) = child_then place
+  ended_in_then None = refl
+
+  ended_then : (q : ℕ) → ended_of become (updated before process.pid (Some then_is)) q ≡ ended_of r before q
+  unfolding ended_of
+  ended_then q =
+      let tests : (λ (place : ℕ). is_ended_as q (updated r.procs slot (Some after) place)) ≡ (λ (place : ℕ). is_ended_as q (r.procs place)) = λ i place. test_then q place i in
+      ap (λ (test : ℕ → Bool). ended_in become (updated before process.pid (Some then_is)) (least_from test 0 16)) tests
+      ∙ ended_in_then (least_from (λ place. is_ended_as q (r.procs place)) 0 16)
+
+  ended_all : ended_of become (processes_of become words InKernel) ≡ ended_of r before
+  ended_all = ap (ended_of become) processes_are ∙ (λ i q. ended_then q i)
+
+  described_all : (number : ℕ) → in_use (processes_of become words InKernel) (λ n. description_by (r.descs n)) number ≡ in_use before (λ n. description_by (r.descs n)) number
+  described_all number = ap (λ (ps : ℕ → Option Process). in_use ps (λ n. description_by (r.descs n)) number) processes_are ∙ described_then number
+
+  next_is : head.next ≡ next_by r.head
+  next_is = sym (ap next_by is_head)
+
+  -- the state that the records then stand for, with these tapes
+  pub becomes : (tapes then_tapes : ℕ → List ℕ) (steps traps : ℕ)
+      → unix_of (becoming r head slot process.pid after terms rows trap) words then_tapes InKernel (steps + 1) (traps + 1)
+      ≡ record (with_process (trapped (unix_of r words tapes context steps traps) process.pid) process.pid (process_of r words slot after))
+          { terminals = λ tty. terminal_by (then_tapes tty) (terms tty) }
+  unfolding unix_of trapped
+  becomes tapes then_tapes steps traps = λ i. record {
+    processes = processes_are i;
+    ended = λ q. ended_all i q;
+    descriptions = λ number. described_all number i;
+    files = λ _. None;
+    terminals = λ tty. terminal_by (then_tapes tty) (terms tty);
+    exits = λ pid. status_by (r.exits pid);
+    next_pid = next_is i;
+    last_pid = process.pid;
+    steps = steps + 1;
+    traps = traps + 1;
+    position = AtKernel;
+  }

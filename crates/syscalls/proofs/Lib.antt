@@ -4,3 +4,6 @@ pub mod Behind
 pub mod Naming
 pub mod Altered
 pub mod Becoming
+pub mod Written
+pub mod Described
+pub mod Served

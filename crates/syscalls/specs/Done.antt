@@ -28,7 +28,7 @@ pub record AreWritten (r : Records) (tapes : ℕ → List ℕ) (tty : ℕ) (byte
   pub terms : (other : ℕ) → other ≢ tty → written.terms other ≡ r.terms other
   pub rows : (index : ℕ) → index / 24 ≢ tty → written.rows index ≡ r.rows index
   pub own_tape : written_tapes tty ≡ tapes tty ++ bytes
-  pub tapes : (other : ℕ) → other ≢ tty → written_tapes other ≡ tapes other
+  pub other_tapes : (other : ℕ) → other ≢ tty → written_tapes other ≡ tapes other
   pub counted : AreCountedBy bytes (tapes tty) (written_tapes tty) (r.terms tty) (written.terms tty)
 
 -- the records and tapes once the call of the process in a slot is served

@@ -1,0 +1,191 @@
+-- What a call makes of the records is what it makes of the state that they stand for.
+use Rattle.std.proofs.Common.{◌≡◌, ◌≢◌, ◌==◌, if◌then◌else◌, ℕ, ◌+◌, ◌-◌, ◌%◌, ◌<◌, ◌≤◌, Bool, true, false, nat_lt, not, List, [], ◌∷◌, map, Option, Some, None, IfSome, inl, inr, refl, sym, ap, subst, ◌∙◌, arith}
+use Rattle.std.proofs.lemmas.Bool.{cases_Bool, ne_eqb}
+use Rattle.std.proofs.lemmas.Bool.Decides.{nat_tests}
+use Rattle.std.proofs.lemmas.Grind.{common_steps}
+use Rattle.ow_base.specs.Sv32.{WordMap}
+use Rattle.ow_base.specs.Words.{minus, updated, wrapped}
+use Rattle.ow_base.specs.UserStep.{register, with_register}
+use Rattle.ow_base.specs.Pages.{bytes_at, is_readable}
+use Rattle.ow_base.specs.declared.machine.Bank.{Bank}
+use Rattle.record_layouts.specs.declared.head.HeadRec.{HeadRec}
+use Rattle.record_layouts.specs.declared.proc.ProcRec.{ProcRec}
+use Rattle.record_layouts.specs.declared.desc.DescRec.{DescRec}
+use Rattle.record_layouts.specs.declared.patch.PatchItem.{PatchItem}
+use Rattle.record_layouts.specs.Unix.{Unix, Process, Terminal, Out, In, Description, OnTty, OnFile}
+use Rattle.record_layouts.specs.Calls.{answered, called, description_of, entered, piece_of, stays_in, stopped, trapped, tty_piece, tty_write, with_process, write_entry, write_on, write_through, written_on, written_to, yield_entry, getpid_entry}
+use Rattle.record_layouts.specs.Held.{Records, with_items}
+use Rattle.record_layouts.specs.Pages.{is_live, pages_of}
+use Rattle.record_layouts.specs.Decode.{Context, InKernel, InUser, descriptor_of, object_of, process_of, processes_of, terminal_by, unix_of}
+use Rattle.record_layouts.specs.Sound.{IsIn, AreSound}
+use Rattle.process_table.specs.Patches.{saved_process}
+use Rattle.process_table.proofs.Regions.{SameRegions, pages_same}
+use Rattle.process_table.proofs.Seats.{pid_range}
+use Rattle.syscalls.specs.Planned.{Planned, PlanOnce, PlanWrite, answered_process, argument_of, caller_with, is_written, items_of, named, planned_answer, planned_tty, planned_write, planned_write_on, staying_process, stopped_answer, written_process, yielded_process}
+use Rattle.syscalls.specs.Done.{AreWritten, IsDone}
+use Rattle.syscalls.specs.Serving.{AreOnTerminals}
+use Rattle.syscalls.proofs.Becoming.{IsAfter, IsOf, bank_by, becoming, becomes, caller_decodes}
+use Rattle.syscalls.proofs.Written.{terminals_then}
+use Rattle.syscalls.proofs.Described.{described, described_as, description_is}
+
+module _ (r : Records) (head : HeadRec) (slot : ℕ) (process : ProcRec) (trap : ℕ) (words : WordMap) (tapes : ℕ → List ℕ) (context : Context) (steps traps : ℕ)
+    (sound : AreSound r) (is_head : r.head ≡ Some head) (is : IsIn r slot process) (of : IsOf context process.pid) where
+
+  -- the caller as its call finds it, and the state in which its trap begins
+  abbrev saved : ProcRec
+  saved = saved_process process (bank_by context process)
+
+  abbrev caller : Process
+  caller = record (process_of r words slot process) { bank = bank_by context process }
+
+  abbrev state : Unix
+  state = trapped (unix_of r words tapes context steps traps) process.pid
+
+  -- the state that records and tapes stand for when the trap is done
+  abbrev Ends : Records → (ℕ → List ℕ) → Unix → Type 0
+  Ends done done_tapes u = unix_of done words done_tapes InKernel (steps + 1) (traps + 1) ≡ u
+
+  ends_once : (after : ProcRec) → IsAfter process after → Ends (with_items r (items_of (caller_with slot trap head saved) after)) tapes (with_process state process.pid (process_of r words slot after))
+  unfolding unix_of trapped
+  ends_once after next =
+      let pid : Ends (with_items r (items_of (caller_with slot trap head saved) after)) tapes (unix_of (becoming r head slot process.pid after r.terms r.rows trap) words tapes InKernel (steps + 1) (traps + 1)) =
+          ap (λ (p : ℕ). unix_of (becoming r head slot p after r.terms r.rows trap) words tapes InKernel (steps + 1) (traps + 1)) next.pid in
+      pid ∙ becomes r head slot process after r.terms r.rows trap words context sound is_head is of next tapes tapes steps traps
+
+  ends_written : (after : ProcRec) (tty : ℕ) (bytes : List ℕ) (written : Records) (done_tapes : ℕ → List ℕ) → IsAfter process after → AreWritten r tapes tty bytes written done_tapes
+      → Ends (with_items written (items_of (caller_with slot trap head saved) after)) done_tapes (with_process (written_on state tty bytes) process.pid (process_of r words slot after))
+  unfolding unix_of trapped
+  ends_written after tty bytes written done_tapes next are =
+      let items = items_of (caller_with slot trap head saved) after in
+      let rest : Ends (with_items written items) done_tapes (unix_of (with_items (record r { terms = written.terms; rows = written.rows }) items) words done_tapes InKernel (steps + 1) (traps + 1)) =
+          ap (λ (x : Records). unix_of (with_items x items) words done_tapes InKernel (steps + 1) (traps + 1)) are.rest in
+      let pid : unix_of (with_items (record r { terms = written.terms; rows = written.rows }) items) words done_tapes InKernel (steps + 1) (traps + 1)
+          ≡ unix_of (becoming r head slot process.pid after written.terms written.rows trap) words done_tapes InKernel (steps + 1) (traps + 1) =
+          ap (λ (p : ℕ). unix_of (becoming r head slot p after written.terms written.rows trap) words done_tapes InKernel (steps + 1) (traps + 1)) next.pid in
+      rest ∙ (pid ∙ (becomes r head slot process after written.terms written.rows trap words context sound is_head is of next tapes done_tapes steps traps
+      ∙ ap (λ (ts : ℕ → Terminal). record (with_process state process.pid (process_of r words slot after)) { terminals = ts })
+          (terminals_then r tapes tty bytes written done_tapes are)))
+
+  -- what the process then decodes to
+  outside : (after : ProcRec) → after.state ≡ 1 → after.code_pages ≡ process.code_pages → after.data_pages ≡ process.data_pages → after.brk ≡ process.brk → SameRegions after process
+  outside after state code values brk = record { live = rw state refl; lives = is.live; code = code; values = values; brk = brk }
+
+  inside : (after : ProcRec) → after.state ≡ 2 → after.code_pages ≡ process.code_pages → after.data_pages ≡ process.data_pages → after.brk ≡ process.brk → SameRegions after process
+  inside after state code values brk = record { live = rw state refl; lives = is.live; code = code; values = values; brk = brk }
+
+  answer_regions : (answer : ℕ) → SameRegions (answered_process saved answer) process
+  answer_regions answer = outside (answered_process saved answer) refl refl refl refl
+
+  answer_after : (answer : ℕ) → IsAfter process (answered_process saved answer)
+  answer_after answer = record { pid = refl; parent = refl; status = refl; descs = refl; regions = answer_regions answer }
+
+  answer_is : (u : Unix) (answer : ℕ) → with_process u process.pid (process_of r words slot (answered_process saved answer)) ≡ answered u process.pid caller answer
+  unfolding answered process_of
+  answer_is u answer = ap (with_process u process.pid) (λ i. record (process_of r words slot (answered_process saved answer)) { pages = pages_same r words slot (answered_process saved answer) process (answer_regions answer) i })
+
+  yield_regions : SameRegions (yielded_process saved) process
+  yield_regions = outside (yielded_process saved) refl refl refl refl
+
+  yield_after : IsAfter process (yielded_process saved)
+  yield_after = record { pid = refl; parent = refl; status = refl; descs = refl; regions = yield_regions }
+
+  yield_is : (u : Unix) → with_process u process.pid (process_of r words slot (yielded_process saved)) ≡ yield_entry u process.pid caller
+  unfolding yield_entry process_of
+  yield_is u = ap (with_process u process.pid) (λ i. record (process_of r words slot (yielded_process saved)) { pages = pages_same r words slot (yielded_process saved) process yield_regions i })
+
+  stay_regions : (done : ℕ) → SameRegions (staying_process saved done) process
+  stay_regions done = inside (staying_process saved done) refl refl refl refl
+
+  stay_after : (done : ℕ) → IsAfter process (staying_process saved done)
+  stay_after done = record { pid = refl; parent = refl; status = refl; descs = refl; regions = stay_regions done }
+
+  stay_is : (u : Unix) (done : ℕ) → with_process u process.pid (process_of r words slot (staying_process saved done)) ≡ stays_in u process.pid caller 2 done
+  unfolding stays_in process_of
+  stay_is u done = ap (with_process u process.pid) (λ i. record (process_of r words slot (staying_process saved done)) { pages = pages_same r words slot (staying_process saved done) process (stay_regions done) i })
+
+  -- a call that is served at once
+  served_once : (after : ProcRec) (done : Records) (done_tapes : ℕ → List ℕ) → IsAfter process after → IsDone r words tapes slot process (PlanOnce (items_of (caller_with slot trap head saved) after)) done done_tapes
+      → Ends done done_tapes (with_process state process.pid (process_of r words slot after))
+  served_once after done done_tapes next served =
+      ap (λ (x : Records). unix_of x words done_tapes InKernel (steps + 1) (traps + 1)) served.0
+      ∙ (ap (λ (ts : ℕ → List ℕ). unix_of (with_items r (items_of (caller_with slot trap head saved) after)) words ts InKernel (steps + 1) (traps + 1)) served.1
+      ∙ ends_once after next)
+
+  pub served_answer : (answer : ℕ) (done : Records) (done_tapes : ℕ → List ℕ) → IsDone r words tapes slot process (planned_answer (caller_with slot trap head saved) answer) done done_tapes
+      → Ends done done_tapes (answered state process.pid caller answer)
+  served_answer answer done done_tapes served = served_once (answered_process saved answer) done done_tapes (answer_after answer) served ∙ answer_is state answer
+
+  pub served_yield : (done : Records) (done_tapes : ℕ → List ℕ) → IsDone r words tapes slot process (PlanOnce (items_of (caller_with slot trap head saved) (yielded_process saved))) done done_tapes
+      → Ends done done_tapes (yield_entry state process.pid caller)
+  served_yield done done_tapes served = served_once (yielded_process saved) done done_tapes yield_after served ∙ yield_is state
+
+  -- a piece of a write: what is left of it is answered, or the process stays
+  written_after : (count done : ℕ) → IsAfter process (written_process saved count done)
+  written_after count done = elim (cases_Bool (done == count)) [
+      inl last ↦ rw last (answer_after count)
+    | inr more ↦ rw more (stay_after done) ]
+
+  written_is : (u : Unix) (count done : ℕ) → with_process u process.pid (process_of r words slot (written_process saved count done)) ≡ written_to u process.pid caller count done
+  written_is u count done = elim (cases_Bool (done == count)) [
+      inl last ↦ rw last (answer_is u count)
+    | inr more ↦ rw more (stay_is u done) ]
+
+  served_piece : (tty from count len done : ℕ) (now : Records) (now_tapes : ℕ → List ℕ)
+      → IsDone r words tapes slot process (PlanWrite tty from len (items_of (caller_with slot trap head saved) (written_process saved count done))) now now_tapes
+      → Ends now now_tapes (written_to (written_on state tty (bytes_at (pages_of r words slot process) from len)) process.pid caller count done)
+  served_piece tty from count len done now now_tapes served =
+      let bytes = bytes_at (pages_of r words slot process) from len in
+      ap (λ (x : Records). unix_of x words now_tapes InKernel (steps + 1) (traps + 1)) served.2
+      ∙ (ends_written (written_process saved count done) tty bytes served.0 now_tapes (written_after count done) served.1
+      ∙ written_is (written_on state tty bytes) count done)
+
+  piece_by : (test : Bool) (tty from count len done answer : ℕ) (now : Records) (now_tapes : ℕ → List ℕ)
+      → IsDone r words tapes slot process
+          (if test then PlanWrite tty from len (items_of (caller_with slot trap head saved) (written_process saved count done)) else planned_answer (caller_with slot trap head saved) answer) now now_tapes
+      → Ends now now_tapes
+          (if test then written_to (written_on state tty (bytes_at (pages_of r words slot process) from len)) process.pid caller count done else answered state process.pid caller answer)
+  piece_by true tty from count len done answer now now_tapes served = served_piece tty from count len done now now_tapes served
+  piece_by false tty from count len done answer now now_tapes served = served_answer answer now now_tapes served
+
+  pub served_tty : (tty done : ℕ) (now : Records) (now_tapes : ℕ → List ℕ)
+      → IsDone r words tapes slot process (planned_tty (pages_of r words slot process) (caller_with slot trap head saved) tty done) now now_tapes
+      → Ends now now_tapes (tty_write state process.pid caller tty done)
+  unfolding planned_tty tty_write process_of
+  served_tty tty done now now_tapes served =
+      let from = argument_of saved 1 + done in
+      let count = argument_of saved 2 in
+      let len = tty_piece count done in
+      piece_by (is_readable (pages_of r words slot process) from len) tty from count len (done + len) (stopped_answer done 14) now now_tapes served
+
+  -- what is written on, where it is on a terminal
+  on_tty : (d : DescRec) → d.object ≢ 1 → object_of d ≡ OnTty d.index
+  on_tty d other = rw (ne_eqb d.object 1 other) refl
+
+  served_on : (d : DescRec) (done : ℕ) (now : Records) (now_tapes : ℕ → List ℕ) → d.object ≢ 1
+      → IsDone r words tapes slot process (planned_tty (pages_of r words slot process) (caller_with slot trap head saved) d.index done) now now_tapes
+      → Ends now now_tapes (write_on state process.pid caller done (described_as d).object)
+  served_on d done now now_tapes other served = served_tty d.index done now now_tapes served ∙ sym (ap (write_on state process.pid caller done) (on_tty d other))
+
+  -- write
+  write_by : (held : Option DescRec) (now : Records) (now_tapes : ℕ → List ℕ) → IfSome held (λ d. d.object ≢ 1)
+      → IsDone r words tapes slot process (planned_write_on (pages_of r words slot process) (caller_with slot trap head saved) held) now now_tapes
+      → Ends now now_tapes (write_through state process.pid caller (described held))
+  unfolding planned_write_on
+  write_by None now now_tapes other served = served_answer (minus 9) now now_tapes served
+  write_by (Some d) now now_tapes other served = elim (cases_Bool (is_written d)) [
+      inl writes ↦ elim (cases_Bool (nat_lt 0x7fffffff (argument_of saved 2))) [
+          inl many ↦ rw (writes, many) (served_answer (minus 22) now now_tapes (rw (writes, many) at served))
+        | inr few ↦ elim (cases_Bool (argument_of saved 2 == 0)) [
+            inl none ↦ rw (writes, few, none) (served_answer 0 now now_tapes (rw (writes, few, none) at served))
+          | inr some ↦ rw (writes, few, some) (served_on d 0 now now_tapes other (rw (writes, few, some) at served)) ] ]
+    | inr reads ↦ rw reads (served_answer (minus 9) now now_tapes (rw reads at served)) ]
+
+  -- what a descriptor of the caller names
+  caller_there : processes_of r words context process.pid ≡ Some caller
+  caller_there = caller_decodes r words context slot process sound is of
+
+  names : (fd : ℕ) → description_of state caller fd ≡ described (named r process.descs fd)
+  unfolding description_of trapped unix_of process_of
+  names fd =
+      let range = pid_range r slot process sound.values is in
+      description_is r (processes_of r words context) process.pid caller process.descs fd caller_there refl range.0 range.1
