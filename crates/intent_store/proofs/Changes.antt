@@ -38,7 +38,7 @@ module _ (change : Change) (changes : may_change change.span.begin change.span.e
   unfolding partly_changed
   partly-more number value area low high begins ends e =
       let same : partly_changed change (number - change.span.begin) area (change.values + (number - change.span.begin)) ≡ area (change.values + (number - change.span.begin))
-          = partly-block (number - change.span.begin) (change.values + (number - change.span.begin)) area (omega arith) (omega arith) (omega arith) in
+      = partly-block (number - change.span.begin) (change.values + (number - change.span.begin)) area (omega arith) (omega arith) (omega arith) in
       let v = e ∙ same in
       grind (arith, nat_tests, v)
 

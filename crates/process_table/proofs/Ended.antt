@@ -20,8 +20,19 @@ blank = record { regs = zeros 31; pc = refl }
 
 pub over : (process : ProcRec) (status : ℕ) → IsOver (ended_process process status)
 over process status = record {
-  call = refl; done = refl; code_pages = refl; data_pages = refl; brk = refl; procedure = refl; mask = refl; flags = refl;
-  descs = zeros 8; regs = zeros 31; pc = refl; handler_save = blank; crash_save = blank;
+  call = refl;
+  done = refl;
+  code_pages = refl;
+  data_pages = refl;
+  brk = refl;
+  procedure = refl;
+  mask = refl;
+  flags = refl;
+  descs = zeros 8;
+  regs = zeros 31;
+  pc = refl;
+  handler_save = blank;
+  crash_save = blank;
 }
 
 pub ended_fits : (process : ProcRec) (status : ℕ) → FitsProc process → is_live process ≡ true → IsStatus status → FitsProc (ended_process process status)

@@ -20,8 +20,9 @@ set_here f place value = let same : (place == place) ≡ true = grind (arith, na
 
 pub set_other : {V : Type 0} (f : ℕ → V) (place : ℕ) (value : V) (k : ℕ) → (k ≡ place → ⊥) → updated f place value k ≡ f k
 set_other f place value k differs = elim (cases_Bool (k == place)) [
-    inl same ↦ let equal : k ≡ place = grind (arith, nat_tests) in absurd (differs equal)
-  | inr other ↦ rw other refl ]
+  | inl same ↦ let equal : k ≡ place = grind (arith, nat_tests) in absurd (differs equal)
+  | inr other ↦ rw other refl
+]
 
 nat_differs : (k place : ℕ) → (k == place) ≡ false → k ≢ place
 nat_differs k place other = grind (arith, nat_tests)
@@ -29,8 +30,9 @@ nat_differs k place other = grind (arith, nat_tests)
 -- a number is another or not
 pub same_or_not : (k place : ℕ) → (k ≡ place) ⊎ (k ≡ place → ⊥)
 same_or_not k place = elim (cases_Bool (k == place)) [
-    inl same ↦ inl (grind (arith, nat_tests))
-  | inr other ↦ inr (λ equal. omega (arith, equal, nat_differs k place other)) ]
+  | inl same ↦ inl (grind (arith, nat_tests))
+  | inr other ↦ inr (λ equal. omega (arith, equal, nat_differs k place other))
+]
 
 -- a process is what another was, but for registers, saved contexts, its flags, and the call that it is not in any more
 pub record IsKin (old new : ProcRec) : Type 0 where
@@ -59,16 +61,23 @@ pub record AllWere (r : Records) (head : Option HeadRec) (procs : ℕ → Option
 transfer_stays : (r : Records) (head : Option HeadRec) (procs : ℕ → Option ProcRec) (sigs : ℕ → Option SigRec) (exits : ℕ → Option ExitRec)
     (process : ProcRec) (mode : ℕ) (description : DescRec) → IsTransfer r process mode description → IsTransfer (changed r head procs sigs exits) process mode description
 transfer_stays r head procs sigs exits process mode description is = record {
-  descriptor = is.descriptor; named = is.named; there = is.there; allowed = is.allowed; count = is.count; left = is.left;
+  descriptor = is.descriptor;
+  named = is.named;
+  there = is.there;
+  allowed = is.allowed;
+  count = is.count;
+  left = is.left;
 }
 
 in_call_stays : (r : Records) (head : Option HeadRec) (procs : ℕ → Option ProcRec) (sigs : ℕ → Option SigRec) (exits : ℕ → Option ExitRec)
     (process : ProcRec) → IsInCall r process → IsInCall (changed r head procs sigs exits) process
 in_call_stays r head procs sigs exits process is = elim is [
-    inl write ↦ inl (write.0, (write.1.0, transfer_stays r head procs sigs exits process 2 write.1.0 write.1.1))
+  | inl write ↦ inl (write.0, (write.1.0, transfer_stays r head procs sigs exits process 2 write.1.0 write.1.1))
   | inr rest ↦ inr (elim rest [
-    inl read ↦ inl (read.0, read.1, (read.2.0, transfer_stays r head procs sigs exits process 1 read.2.0 read.2.1, read.2.2))
-  | inr wait ↦ inr wait ]) ]
+    | inl read ↦ inl (read.0, read.1, (read.2.0, transfer_stays r head procs sigs exits process 1 read.2.0 read.2.1, read.2.2))
+    | inr wait ↦ inr wait
+  ])
+]
 
 pub calls_stay : (r : Records) (head : Option HeadRec) (procs : ℕ → Option ProcRec) (sigs : ℕ → Option SigRec) (exits : ℕ → Option ExitRec)
     → AllWere r head procs sigs exits → AreInCalls r → AreInCalls (changed r head procs sigs exits)

@@ -39,7 +39,9 @@ same_signals r slot process sound is = record {
 
 saved_kin : (process : ProcRec) (bank : Bank) → is_live process ≡ true → process.state ≡ 1 → IsKin process (saved_process process bank)
 saved_kin process bank live out = record {
-  pid = refl; parent = refl; descs = refl;
+  pid = refl;
+  parent = refl;
+  descs = refl;
   regions = record { live = live; lives = live; code = refl; values = refl; brk = refl };
   call = λ in_call. absurd (omega (arith, out, in_call));
 }
@@ -89,8 +91,9 @@ user_is r words slot process count bank sound is =
 -- a process that is set to itself
 set_itself_at : (ps : ℕ → Option Process) (pid : ℕ) (p : Process) (q : ℕ) → ps pid ≡ Some p → updated ps pid (Some p) q ≡ ps q
 set_itself_at ps pid p q there = elim (same_or_not q pid) [
-    inl here ↦ subst (λ (k : ℕ). updated ps pid (Some p) k ≡ ps k) (sym here) (set_here ps pid (Some p) ∙ sym there)
-  | inr apart ↦ set_other ps pid (Some p) q apart ]
+  | inl here ↦ subst (λ (k : ℕ). updated ps pid (Some p) k ≡ ps k) (sym here) (set_here ps pid (Some p) ∙ sym there)
+  | inr apart ↦ set_other ps pid (Some p) q apart
+]
 
 set_itself : (ps : ℕ → Option Process) (pid : ℕ) (p : Process) → ps pid ≡ Some p → updated ps pid (Some p) ≡ ps
 set_itself ps pid p there = λ i q. set_itself_at ps pid p q there i
@@ -98,7 +101,7 @@ set_itself ps pid p there = λ i q. set_itself_at ps pid p q there i
 pub saved_unix : (r : Records) (head : HeadRec) (slot : ℕ) (process : ProcRec) (bank : Bank) (trap : ℕ) (words : WordMap) (tapes : ℕ → List ℕ) (count steps traps : ℕ)
     → AreSound r → r.head ≡ Some head → IsIn r slot process → process.state ≡ 1
     → unix_of (with_items r (saved_items head slot process bank trap)) words tapes InKernel (steps + 1) (traps + 1)
-      ≡ trapped (unix_of r words tapes (InUser process.pid count bank) steps traps) process.pid
+    ≡ trapped (unix_of r words tapes (InUser process.pid count bank) steps traps) process.pid
 unfolding unix_of trapped
 saved_unix r head slot process bank trap words tapes count steps traps sound is_head is out =
     let context = InUser process.pid count bank in
@@ -106,7 +109,7 @@ saved_unix r head slot process bank trap words tapes count steps traps sound is_
     let held : processes_of r words context process.pid ≡ Some p = user_is r words slot process count bank sound is in
     let change : IsChange r head slot process (saved_process process bank) r.sigs = saved_change r head slot process bank sound is_head is out in
     let made = changed_unix r head slot process (saved_process process bank) r.sigs trap words tapes context steps traps p p sound change refl held
-        (made_is r head slot process bank trap words) refl in
+    (made_is r head slot process bank trap words) refl in
     ap (λ (x : Records). unix_of x words tapes InKernel (steps + 1) (traps + 1)) (saved_are r head slot process bank trap)
     ∙ (made ∙ ap (λ (live : ℕ → Option Process). record (trapped (unix_of r words tapes context steps traps) process.pid) { processes = live })
-        (set_itself (processes_of r words context) process.pid p held))
+    (set_itself (processes_of r words context) process.pid p held))

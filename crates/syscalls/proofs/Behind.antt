@@ -14,11 +14,12 @@ use Rattle.syscalls.specs.Planned.{pages_if}
 no_region : (process : ProcRec) (page : ℕ) → FitsProc process → 2 ^ 20 ≤ page → region_of process page ≡ None
 unfolding region_of
 no_region process page fits high = elim (cases_Bool (is_live process)) [
-    inl live ↦
-        let held = live_fits process fits live in
-        let heap : 16 + process.code_pages + (process.data_pages + heap_pages process) ≤ 1024 = omega (arith, held.heap_end) in
-        rw live (grind (arith, held.code_pages, heap, high))
-    | inr over ↦ rw over refl ]
+  | inl live ↦
+      let held = live_fits process fits live in
+      let heap : 16 + process.code_pages + (process.data_pages + heap_pages process) ≤ 1024 = omega (arith, held.heap_end) in
+      rw live (grind (arith, held.code_pages, heap, high))
+  | inr over ↦ rw over refl
+]
 
 -- a range of which the first byte lies in no page
 first_unreadable : (pages : Pages) (address n : ℕ) → rights_at pages address ≡ None → is_readable pages address (suc n) ≡ false

@@ -48,13 +48,14 @@ named_within : (ps : ℕ → Option Process) (pid number : ℕ) (p : Process) (f
 unfolding is_named
 named_within ps pid number p first zero there named from to = absurd (omega arith)
 named_within ps pid number p first (suc count) there named from to = elim (cases_Bool (first == pid)) [
-    inl same ↦
+  | inl same ↦
       let equal : first ≡ pid = grind (arith, nat_tests) in
       let here : is_named_by number (ps first) ≡ true = rw equal (rw there named) in
       rw here refl
   | inr apart ↦
       let later : first + 1 ≤ pid = grind (arith, nat_tests) in
-      rw (named_within ps pid number p (first + 1) count there named later (omega arith)) (either (is_named_by number (ps first))) ]
+      rw (named_within ps pid number p (first + 1) count there named later (omega arith)) (either (is_named_by number (ps first)))
+]
 
 by_word : (r : Records) (ps : ℕ → Option Process) (pid : ℕ) (p : Process) (words : List ℕ) (i : ℕ) (held : Option ℕ) → slice_get words i ≡ held
     → ps pid ≡ Some p → p.descriptors ≡ map descriptor_of words → 1 ≤ pid → pid ≤ 256
@@ -62,11 +63,12 @@ by_word : (r : Records) (ps : ℕ → Option Process) (pid : ℕ) (p : Process) 
 unfolding in_use
 by_word r ps pid p words i None is there descriptors from to = refl
 by_word r ps pid p words i (Some word) is there descriptors from to = elim (cases_Bool (word == 0)) [
-    inl none ↦ rw none refl
+  | inl none ↦ rw none refl
   | inr some ↦
       let listed : is_among (word - 1) p.descriptors ≡ true = rw descriptors (among words i word is some) in
       let used : is_named ps (word - 1) 1 256 ≡ true = named_within ps pid (word - 1) p 1 256 there listed from (omega arith) in
-      rw some (rw used (described_open (r.descs (word - 1)))) ]
+      rw some (rw used (described_open (r.descs (word - 1))))
+]
 
 pub description_is : (r : Records) (ps : ℕ → Option Process) (pid : ℕ) (p : Process) (words : List ℕ) (fd : ℕ) → ps pid ≡ Some p
     → p.descriptors ≡ map descriptor_of words → 1 ≤ pid → pid ≤ 256

@@ -26,16 +26,18 @@ by_kind d (inr (inr terminal)) opened other = omega (arith, terminal.index)
 if_open_terminal : (held : Option DescRec) (d : DescRec) → IfSome held (λ d. d.object ≢ 1) → FitsDesc d → if_open held ≡ Some d → d.index < 2
 if_open_terminal None d others fits is = cc
 if_open_terminal (Some e) d others fits is = elim (eqb_tells e.object 0) [
-    inl (closed, same) ↦ let none : None ≡ Some d = rw closed at is in cc
-    | inr (isnt, other) ↦
-        let same : e ≡ d = let held : Some e ≡ Some d = rw isnt at is in cc in
-        by_kind d fits (subst (λ (x : DescRec). x.object ≢ 0) same other) (subst (λ (x : DescRec). x.object ≢ 1) same others) ]
+  | inl (closed, same) ↦ let none : None ≡ Some d = rw closed at is in cc
+  | inr (isnt, other) ↦
+      let same : e ≡ d = let held : Some e ≡ Some d = rw isnt at is in cc in
+      by_kind d fits (subst (λ (x : DescRec). x.object ≢ 0) same other) (subst (λ (x : DescRec). x.object ≢ 1) same others)
+]
 
 by_word : (r : Records) (word : Option ℕ) (d : DescRec) → AreOnTerminals r → FitsDesc d → named_by r.descs word ≡ Some d → d.index < 2
 by_word r None d others fits is = cc
 by_word r (Some word) d others fits is = elim (eqb_tells word 0) [
-    inl (none, same) ↦ let none : None ≡ Some d = rw none at is in cc
-    | inr (some, other) ↦ if_open_terminal (r.descs (word - 1)) d (others.each (word - 1)) fits (rw some at is) ]
+  | inl (none, same) ↦ let none : None ≡ Some d = rw none at is in cc
+  | inr (some, other) ↦ if_open_terminal (r.descs (word - 1)) d (others.each (word - 1)) fits (rw some at is)
+]
 
 pub on_terminal : (r : Records) (words : List ℕ) (descriptor : ℕ) (d : DescRec) → AreOnTerminals r → FitsDesc d → named r words descriptor ≡ Some d → d.index < 2
 unfolding named

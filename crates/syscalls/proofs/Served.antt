@@ -30,7 +30,6 @@ use Rattle.syscalls.proofs.Described.{described, described_as, description_is}
 
 module _ (r : Records) (head : HeadRec) (slot : ℕ) (process : ProcRec) (trap : ℕ) (words : WordMap) (tapes : ℕ → List ℕ) (context : Context) (steps traps : ℕ)
     (sound : AreSound r) (is_head : r.head ≡ Some head) (is : IsIn r slot process) (of : IsOf context process.pid) where
-
   -- the caller as its call finds it, and the state in which its trap begins
   abbrev saved : ProcRec
   saved = saved_process process (bank_by context process)
@@ -49,7 +48,7 @@ module _ (r : Records) (head : HeadRec) (slot : ℕ) (process : ProcRec) (trap :
   unfolding unix_of trapped
   ends_once after next =
       let pid : Ends (with_items r (items_of (caller_with slot trap head saved) after)) tapes (unix_of (becoming r head slot process.pid after r.terms r.rows trap) words tapes InKernel (steps + 1) (traps + 1)) =
-          ap (λ (p : ℕ). unix_of (becoming r head slot p after r.terms r.rows trap) words tapes InKernel (steps + 1) (traps + 1)) next.pid in
+      ap (λ (p : ℕ). unix_of (becoming r head slot p after r.terms r.rows trap) words tapes InKernel (steps + 1) (traps + 1)) next.pid in
       pid ∙ becomes r head slot process after r.terms r.rows trap words context sound is_head is of next tapes tapes steps traps
 
   ends_written : (after : ProcRec) (tty : ℕ) (bytes : List ℕ) (written : Records) (done_tapes : ℕ → List ℕ) → IsAfter process after → AreWritten r tapes tty bytes written done_tapes
@@ -58,13 +57,13 @@ module _ (r : Records) (head : HeadRec) (slot : ℕ) (process : ProcRec) (trap :
   ends_written after tty bytes written done_tapes next are =
       let items = items_of (caller_with slot trap head saved) after in
       let rest : Ends (with_items written items) done_tapes (unix_of (with_items (record r { terms = written.terms; rows = written.rows }) items) words done_tapes InKernel (steps + 1) (traps + 1)) =
-          ap (λ (x : Records). unix_of (with_items x items) words done_tapes InKernel (steps + 1) (traps + 1)) are.rest in
+      ap (λ (x : Records). unix_of (with_items x items) words done_tapes InKernel (steps + 1) (traps + 1)) are.rest in
       let pid : unix_of (with_items (record r { terms = written.terms; rows = written.rows }) items) words done_tapes InKernel (steps + 1) (traps + 1)
-          ≡ unix_of (becoming r head slot process.pid after written.terms written.rows trap) words done_tapes InKernel (steps + 1) (traps + 1) =
-          ap (λ (p : ℕ). unix_of (becoming r head slot p after written.terms written.rows trap) words done_tapes InKernel (steps + 1) (traps + 1)) next.pid in
+      ≡ unix_of (becoming r head slot process.pid after written.terms written.rows trap) words done_tapes InKernel (steps + 1) (traps + 1) =
+      ap (λ (p : ℕ). unix_of (becoming r head slot p after written.terms written.rows trap) words done_tapes InKernel (steps + 1) (traps + 1)) next.pid in
       rest ∙ (pid ∙ (becomes r head slot process after written.terms written.rows trap words context sound is_head is of next tapes done_tapes steps traps
       ∙ ap (λ (ts : ℕ → Terminal). record (with_process state process.pid (process_of r words slot after)) { terminals = ts })
-          (terminals_then r tapes tty bytes written done_tapes are)))
+      (terminals_then r tapes tty bytes written done_tapes are)))
 
   -- what the process then decodes to
   outside : (after : ProcRec) → after.state ≡ 1 → after.code_pages ≡ process.code_pages → after.data_pages ≡ process.data_pages → after.brk ≡ process.brk → SameRegions after process
@@ -122,13 +121,15 @@ module _ (r : Records) (head : HeadRec) (slot : ℕ) (process : ProcRec) (trap :
   -- a piece of a write: what is left of it is answered, or the process stays
   written_after : (count done : ℕ) → IsAfter process (written_process saved count done)
   written_after count done = elim (cases_Bool (done == count)) [
-      inl last ↦ rw last (answer_after count)
-    | inr more ↦ rw more (stay_after done) ]
+    | inl last ↦ rw last (answer_after count)
+    | inr more ↦ rw more (stay_after done)
+  ]
 
   written_is : (u : Unix) (count done : ℕ) → with_process u process.pid (process_of r words slot (written_process saved count done)) ≡ written_to u process.pid caller count done
   written_is u count done = elim (cases_Bool (done == count)) [
-      inl last ↦ rw last (answer_is u count)
-    | inr more ↦ rw more (stay_is u done) ]
+    | inl last ↦ rw last (answer_is u count)
+    | inr more ↦ rw more (stay_is u done)
+  ]
 
   served_piece : (tty from count len done : ℕ) (now : Records) (now_tapes : ℕ → List ℕ)
       → IsDone r words tapes slot process (PlanWrite tty from len (items_of (caller_with slot trap head saved) (written_process saved count done))) now now_tapes
@@ -141,9 +142,9 @@ module _ (r : Records) (head : HeadRec) (slot : ℕ) (process : ProcRec) (trap :
 
   piece_by : (test : Bool) (tty from count len done answer : ℕ) (now : Records) (now_tapes : ℕ → List ℕ)
       → IsDone r words tapes slot process
-          (if test then PlanWrite tty from len (items_of (caller_with slot trap head saved) (written_process saved count done)) else planned_answer (caller_with slot trap head saved) answer) now now_tapes
+      (if test then PlanWrite tty from len (items_of (caller_with slot trap head saved) (written_process saved count done)) else planned_answer (caller_with slot trap head saved) answer) now now_tapes
       → Ends now now_tapes
-          (if test then written_to (written_on state tty (bytes_at (pages_of r words slot process) from len)) process.pid caller count done else answered state process.pid caller answer)
+      (if test then written_to (written_on state tty (bytes_at (pages_of r words slot process) from len)) process.pid caller count done else answered state process.pid caller answer)
   piece_by true tty from count len done answer now now_tapes served = served_piece tty from count len done now now_tapes served
   piece_by false tty from count len done answer now now_tapes served = served_answer answer now now_tapes served
 
@@ -173,12 +174,15 @@ module _ (r : Records) (head : HeadRec) (slot : ℕ) (process : ProcRec) (trap :
   unfolding planned_write_on
   write_by None now now_tapes other served = served_answer (minus 9) now now_tapes served
   write_by (Some d) now now_tapes other served = elim (cases_Bool (is_written d)) [
-      inl writes ↦ elim (cases_Bool (nat_lt 0x7fffffff (argument_of saved 2))) [
-          inl many ↦ rw (writes, many) (served_answer (minus 22) now now_tapes (rw (writes, many) at served))
-        | inr few ↦ elim (cases_Bool (argument_of saved 2 == 0)) [
-            inl none ↦ rw (writes, few, none) (served_answer 0 now now_tapes (rw (writes, few, none) at served))
-          | inr some ↦ rw (writes, few, some) (served_on d 0 now now_tapes other (rw (writes, few, some) at served)) ] ]
-    | inr reads ↦ rw reads (served_answer (minus 9) now now_tapes (rw reads at served)) ]
+    | inl writes ↦ elim (cases_Bool (nat_lt 0x7fffffff (argument_of saved 2))) [
+      | inl many ↦ rw (writes, many) (served_answer (minus 22) now now_tapes (rw (writes, many) at served))
+      | inr few ↦ elim (cases_Bool (argument_of saved 2 == 0)) [
+        | inl none ↦ rw (writes, few, none) (served_answer 0 now now_tapes (rw (writes, few, none) at served))
+        | inr some ↦ rw (writes, few, some) (served_on d 0 now now_tapes other (rw (writes, few, some) at served))
+      ]
+    ]
+    | inr reads ↦ rw reads (served_answer (minus 9) now now_tapes (rw reads at served))
+  ]
 
   -- what a descriptor of the caller names
   caller_there : processes_of r words context process.pid ≡ Some caller

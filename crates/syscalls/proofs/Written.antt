@@ -23,13 +23,14 @@ terminal_at : (r : Records) (tapes : ℕ → List ℕ) (tty : ℕ) (bytes : List
     → (t : ℕ) → terminal_by (written_tapes t) (written.terms t)
     ≡ updated (λ k. terminal_by (tapes k) (r.terms k)) tty (with_tape (terminal_by (tapes tty) (r.terms tty)) bytes) t
 terminal_at r tapes tty bytes written written_tapes are t = elim (same_or_not t tty) [
-    inl equal ↦ subst (λ (k : ℕ). terminal_by (written_tapes k) (written.terms k) ≡ updated (λ n. terminal_by (tapes n) (r.terms n)) tty (with_tape (terminal_by (tapes tty) (r.terms tty)) bytes) k) (sym equal)
-        (terminal_counted bytes (tapes tty) (written_tapes tty) (r.terms tty) (written.terms tty) are.counted
-        ∙ sym (set_here (λ n. terminal_by (tapes n) (r.terms n)) tty (with_tape (terminal_by (tapes tty) (r.terms tty)) bytes)))
+  | inl equal ↦ subst (λ (k : ℕ). terminal_by (written_tapes k) (written.terms k) ≡ updated (λ n. terminal_by (tapes n) (r.terms n)) tty (with_tape (terminal_by (tapes tty) (r.terms tty)) bytes) k) (sym equal)
+      (terminal_counted bytes (tapes tty) (written_tapes tty) (r.terms tty) (written.terms tty) are.counted
+      ∙ sym (set_here (λ n. terminal_by (tapes n) (r.terms n)) tty (with_tape (terminal_by (tapes tty) (r.terms tty)) bytes)))
   | inr apart ↦
       ap (λ (tape : List ℕ). terminal_by tape (written.terms t)) (are.other_tapes t apart)
       ∙ (ap (λ (held : Option TermRec). terminal_by (tapes t) held) (are.terms t apart)
-      ∙ sym (set_other (λ n. terminal_by (tapes n) (r.terms n)) tty (with_tape (terminal_by (tapes tty) (r.terms tty)) bytes) t apart)) ]
+      ∙ sym (set_other (λ n. terminal_by (tapes n) (r.terms n)) tty (with_tape (terminal_by (tapes tty) (r.terms tty)) bytes) t apart))
+]
 
 pub terminals_then : (r : Records) (tapes : ℕ → List ℕ) (tty : ℕ) (bytes : List ℕ) (written : Records) (written_tapes : ℕ → List ℕ) → AreWritten r tapes tty bytes written written_tapes
     → (λ (t : ℕ). terminal_by (written_tapes t) (written.terms t))

@@ -19,9 +19,23 @@ use Rattle.syscalls.specs.Serving.{AreOnTerminals, CanCall}
 -- outside a call, or in a write of which so many bytes are done
 abbrev pub small_process : (inside : Bool) → (done : ℕ) → (regs : List ℕ) → ProcRec
 small_process inside done regs = record {
-  state = if inside then 2 else 1; pid = 9; parent = 0; call = if inside then 2 else 0; done = if inside then done else 0;
-  code_pages = 1; data_pages = 0; brk = 0; procedure = 0; mask = 0; flags = 0; status = 0;
-  descs = 1 ∷ 2 ∷ replicate 6 0; regs = regs; pc = 0x10010; handler_save = blank_bank; crash_save = blank_bank;
+  state = if inside then 2 else 1;
+  pid = 9;
+  parent = 0;
+  call = if inside then 2 else 0;
+  done = if inside then done else 0;
+  code_pages = 1;
+  data_pages = 0;
+  brk = 0;
+  procedure = 0;
+  mask = 0;
+  flags = 0;
+  status = 0;
+  descs = 1 ∷ 2 ∷ replicate 6 0;
+  regs = regs;
+  pc = 0x10010;
+  handler_save = blank_bank;
+  crash_save = blank_bank;
 }
 
 -- description 0 is on terminal 1, and no other is open
@@ -69,8 +83,14 @@ descs_fit (suc (suc k)) within = omega (arith, get_or-replicate {A = ℕ} 6 k 0 
 
 live_fits : (inside : Bool) (done : ℕ) (regs : List ℕ) → FitsLive (small_process inside done regs)
 live_fits inside done regs = record {
-  pid = (omega arith, omega arith); parent = omega arith; code_pages = (omega arith, omega arith); data_pages = omega arith;
-  heap_end = omega arith; flags = omega arith; status = refl; descs = descs_fit;
+  pid = (omega arith, omega arith);
+  parent = omega arith;
+  code_pages = (omega arith, omega arith);
+  data_pages = omega arith;
+  heap_end = omega arith;
+  flags = omega arith;
+  status = refl;
+  descs = descs_fit;
 }
 
 process_fits : (inside : Bool) (done : ℕ) (regs : List ℕ) → FitsProc (small_process inside done regs)
@@ -97,8 +117,9 @@ open_fits false = inr (inr (record { object = refl; index = omega arith; mode = 
 
 description_fits : (reads_only : Bool) (i : ℕ) → FitsDesc (small_description reads_only i)
 description_fits reads_only i = elim (cases_Bool (i == 0)) [
-    inl first ↦ rw first (open_fits reads_only)
-    | inr other ↦ rw other (inl (record { object = refl; index = refl; mode = refl; offset = refl })) ]
+  | inl first ↦ rw first (open_fits reads_only)
+  | inr other ↦ rw other (inl (record { object = refl; index = refl; mode = refl; offset = refl }))
+]
 
 zeros : (count : ℕ) → AreZero (replicate count 0) 0 count
 zeros count k from to = get_or-replicate count k 0 0 to
@@ -128,14 +149,22 @@ small_values inside reads_only done regs = record {
 
 small_complete : (inside reads_only : Bool) (done : ℕ) (regs : List ℕ) → AreComplete (small_records inside reads_only done regs)
 small_complete inside reads_only done regs = record {
-  head = refl; procs = λ _ _. refl; sigs = λ _ _. refl; descs = λ _ _. refl; files = λ _ _. refl; caches = λ _ _. refl;
-  terms = λ _ _. refl; rows = λ _ _. refl; exits = λ _ _ _. refl;
+  head = refl;
+  procs = λ _ _. refl;
+  sigs = λ _ _. refl;
+  descs = λ _ _. refl;
+  files = λ _ _. refl;
+  caches = λ _ _. refl;
+  terms = λ _ _. refl;
+  rows = λ _ _. refl;
+  exits = λ _ _ _. refl;
 }
 
 on_terminals : (reads_only : Bool) (i : ℕ) → (small_description reads_only i).object ≢ 1
 on_terminals reads_only i = elim (cases_Bool (i == 0)) [
-    inl first ↦ rw first (λ is. absurd (omega (arith, is)))
-    | inr other ↦ rw other (λ is. absurd (omega (arith, is))) ]
+  | inl first ↦ rw first (λ is. absurd (omega (arith, is)))
+  | inr other ↦ rw other (λ is. absurd (omega (arith, is)))
+]
 
 mapped : (inside reads_only : Bool) (done : ℕ) (regs : List ℕ) → is_mapped (small_records inside reads_only done regs) 3 (small_process inside done regs) ≡ true
 unfolding is_mapped have_frames frame_of region_of entry_for

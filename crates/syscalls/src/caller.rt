@@ -16,6 +16,7 @@ const ARGUMENTS: u32 = 10;
 
 // A process outside a call, and one in a call.
 const OUTSIDE: u32 = 1;
+
 const IN_CALL: u32 = 2;
 
 // The number of the call write.
@@ -81,7 +82,10 @@ impl Caller {
     {
         let mut regs = self.process.regs;
         regs.set(ARGUMENTS, answer);
-        let process = ProcRec { regs, ..self.process };
+        let process = ProcRec {
+            regs,
+            ..self.process
+        };
         Caller { process, ..*self }.goes_on()
     }
 
@@ -117,7 +121,11 @@ impl Caller {
         ensures patch { IsPatch result.items.items }
     {
         let count = self.argument(2);
-        if done == count { self.answers(count) } else { self.stays(done) }
+        if done == count {
+            self.answers(count)
+        } else {
+            self.stays(done)
+        }
     }
 
     // A piece is stopped by an error: the call answers the bytes done, or the error where there are none.
@@ -128,6 +136,10 @@ impl Caller {
             (answered_process self.now.process (stopped_answer done error.0)) }
         ensures patch { IsPatch result.items.items }
     {
-        if done == 0 { self.fails(error) } else { self.answers(done) }
+        if done == 0 {
+            self.fails(error)
+        } else {
+            self.answers(done)
+        }
     }
 }

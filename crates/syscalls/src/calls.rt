@@ -18,19 +18,26 @@ use record_layouts::{DescRec, Patch, ProcRec, RecordView};
 
 // The numbers of the other calls, and the register that holds the number.
 const EXIT: u32 = 1;
+
 const GETPID: u32 = 7;
+
 const YIELD: u32 = 18;
+
 const NUMBER: u32 = 17;
 
 // The errors: no such descriptor or no right to write, an address that cannot be read, a count that is too large, and
 // a number that is no call.
 const EBADF: Errno = Errno(9);
+
 const EFAULT: Errno = Errno(14);
+
 const EINVAL: Errno = Errno(22);
+
 const ENOSYS: Errno = Errno(38);
 
 // The most bytes that a write may ask for, and the most that one piece writes on a terminal.
 const MOST_BYTES: u32 = 0x7fff_ffff;
+
 const PIECE: u32 = 16;
 
 // What a descriptor of the live process in the slot stands for, `None` exactly where it stands for nothing that is open.

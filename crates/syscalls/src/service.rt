@@ -6,7 +6,9 @@ use record_layouts::Patch;
 #[derive(Debug, Drop)]
 pub enum Service {
     /// Only the patch is to be committed.
-    Once { patch: Patch },
+    Once {
+        patch: Patch,
+    },
     /// The bytes of the process from the address `from` on, `len` of them, 1 to 16, are written on terminal `tty`,
     /// and then the patch is committed.
     TtyWrite {

@@ -65,8 +65,7 @@ fn becomes(patch: &Patch, pc: u32) -> After {
     };
     match (first.id, first.rec, second.id, second.rec) {
         (RecordId::Head, AnyRec::Head(head), RecordId::Proc(3), AnyRec::Proc(process))
-            if head.served == 41 && head.last == 9 && head.next == 10 =>
-        {
+            if head.served == 41 && head.last == 9 && head.next == 10 => {
             told_by(&process, pc, items.len())
         }
         _ => Wrong,
@@ -120,8 +119,11 @@ fn continued(address: u32, count: u32, done: u32) -> Option<Asked> {
 }
 
 const EBADF: After = Behind(0xffff_fff7);
+
 const EFAULT: After = Behind(0xffff_fff2);
+
 const EINVAL: After = Behind(0xffff_ffea);
+
 const ENOSYS: After = Behind(0xffff_ffda);
 
 #[test]
@@ -146,7 +148,11 @@ fn refused_writes(rt: HostRuntime) {
         ([0, 0xffff_ffff, 2], false, EFAULT),
     ];
     for (arguments, reads_only, answer) in table {
-        assert_eq!(rt; entered(2, arguments, reads_only), (None, answer), "write {arguments:?}");
+        assert_eq!(rt;
+            entered(2, arguments, reads_only),
+            (None, answer),
+            "write {arguments:?}"
+        );
     }
 }
 
@@ -164,7 +170,11 @@ fn first_pieces(rt: HostRuntime) {
         (0x7fff_fff0, 16, 16, Behind(16)),
     ];
     for (address, count, len, becomes) in table {
-        assert_eq!(rt; entered(2, [0, address, count], false), (Some((address, len)), becomes), "write {count} at {address:x}");
+        assert_eq!(rt;
+            entered(2, [0, address, count], false),
+            (Some((address, len)), becomes),
+            "write {count} at {address:x}"
+        );
     }
 }
 
@@ -172,18 +182,40 @@ fn first_pieces(rt: HostRuntime) {
 fn further_pieces(rt: HostRuntime) {
     // address, count, bytes done; the piece, what becomes of the process
     let table = [
-        (0x10000, 40, 16, Some((0x10010, 16)), Inside { done: 32, a0: 0 }),
+        (
+            0x10000,
+            40,
+            16,
+            Some((0x10010, 16)),
+            Inside { done: 32, a0: 0 },
+        ),
         (0x10000, 40, 32, Some((0x10020, 8)), Behind(40)),
         (0x10000, 48, 32, Some((0x10020, 16)), Behind(48)),
-        (0x10fe0, 100, 16, Some((0x10ff0, 16)), Inside { done: 32, a0: 0 }),
+        (
+            0x10fe0,
+            100,
+            16,
+            Some((0x10ff0, 16)),
+            Inside { done: 32, a0: 0 },
+        ),
         (0x10fe0, 100, 32, None, Behind(32)),
         (0x10fe8, 100, 16, None, Behind(16)),
-        (0x10fe8, 40, 0, Some((0x10fe8, 16)), Inside { done: 16, a0: 0 }),
+        (
+            0x10fe8,
+            40,
+            0,
+            Some((0x10fe8, 16)),
+            Inside { done: 16, a0: 0 },
+        ),
         (0x11000, 40, 0, None, EFAULT),
         (0xffff_fff0, 40, 16, None, Behind(16)),
     ];
     for (address, count, done, range, becomes) in table {
-        assert_eq!(rt; continued(address, count, done), Some((range, becomes)), "{done} of {count} at {address:x}");
+        assert_eq!(rt;
+            continued(address, count, done),
+            Some((range, becomes)),
+            "{done} of {count} at {address:x}"
+        );
     }
 }
 
@@ -203,6 +235,10 @@ fn calls_without_bytes(rt: HostRuntime) {
         (0xffff_ffff, 5, ENOSYS),
     ];
     for (number, a0, becomes) in table {
-        assert_eq!(rt; entered(number, [a0, 0x10000, 3], false), (None, becomes), "call {number}");
+        assert_eq!(rt;
+            entered(number, [a0, 0x10000, 3], false),
+            (None, becomes),
+            "call {number}"
+        );
     }
 }

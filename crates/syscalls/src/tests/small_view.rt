@@ -10,12 +10,16 @@ use record_layouts::{
 
 // The words of the tables: the low and the high table, the page of code in frame 130, and the stack from frame 131 on.
 const LOW_TABLE: u32 = 1024 * 26 + 1;
+
 const HIGH_TABLE: u32 = 1024 * 27 + 1;
+
 const CODE_LEAF: u32 = 1024 * 130 + 0x5b;
+
 const STACK_LEAF: u32 = 1024 * 131 + 0xd7;
 
 // The owner words of these frames.
 const CODE_CLAIM: u32 = 0x0040_0010;
+
 const STACK_CLAIM: u32 = 0x0047_fffc;
 
 fn blank() -> Bank
@@ -39,13 +43,11 @@ pub(crate) struct SmallView {
     pub(crate) reads_only: bool,
 }
 
-
 impl SmallView {
     // Calls of the process can be served.
     pub(crate) fn can_call(&self)
         ensures { CanCall (⟦<SmallView as RecordView>⟧.records self.now) 3 }
-    {
-    }
+    {}
 }
 
 impl WordSource for SmallView {
@@ -76,7 +78,11 @@ impl RecordView for SmallView {
     }
 
     fn proc(&self, _slot: u32) -> Option<ProcRec> {
-        let (state, call, done) = if self.inside { (2, 2, self.done) } else { (1, 0, 0) };
+        let (state, call, done) = if self.inside {
+            (2, 2, self.done)
+        } else {
+            (1, 0, 0)
+        };
         Some(ProcRec {
             state,
             pid: 9,

@@ -24,8 +24,8 @@ loop-word-preserved g c =
     let old = g.W.WordSource.words c.args.store.now in
     let fits : c.loop-word.word < 1024 = omega arith in
     let value : c.word_at-value.result ≡ word_or_zero (old c.args.from c.loop-word.word)
-        = c.word_at-value.ensures ∙ ap (λ (ws : WordMap). word_or_zero (ws c.args.from c.loop-word.word)) c.loop-word.invariant.stored
-        ∙ ap word_or_zero (first-later old c.args.to (λ (w : ℕ). word_or_zero (old c.args.from w)) c.loop-word.word c.args.from) in
+    = c.word_at-value.ensures ∙ ap (λ (ws : WordMap). word_or_zero (ws c.args.from c.loop-word.word)) c.loop-word.invariant.stored
+    ∙ ap word_or_zero (first-later old c.args.to (λ (w : ℕ). word_or_zero (old c.args.from w)) c.loop-word.word c.args.from) in
     record {
       stored = c.in_ok-store.ensures.ok ∙ ap (λ (ws : WordMap). with_word_at ws c.args.to c.loop-word.word c.word_at-value.result) c.loop-word.invariant.stored
           ∙ first-more old c.args.to (λ (w : ℕ). word_or_zero (old c.args.from w)) c.loop-word.word c.word_at-value.result fits value;
