@@ -1,9 +1,9 @@
 -- What words are read as is the value whose record they are.
-use Rattle.std.proofs.Common.{◌≡◌, ℕ, Bool, true, ◌&&◌, ◌==◌, nat_lt, List, slice_index, take, drop, Option, Some, refl, sym, ◌∙◌, arith}
+use Rattle.std.proofs.Common.{◌≡◌, ℕ, Bool, ◌&&◌, ◌==◌, nat_lt, List, slice_index, take, drop, Some, refl, sym, arith}
 use Rattle.std.proofs.lemmas.Bool.Decides.{Decides-and, Decides-eqb, Decides-like, Decides-ltb}
 use Rattle.std.specs.Bool.{Decides}
-use Rattle.record_layouts.specs.Spelling.{AreZero, are_zero, is_sealed_record, only_where}
-use Rattle.record_layouts.specs.Tests.{IsSealedRecord, decides_between, decides_sealed_record, decides_status, decides_zero, one_read, reads_one}
+use Rattle.record_layouts.specs.Spelling.{AreZero, are_zero, is_sealed_record}
+use Rattle.record_layouts.specs.Tests.{IsSealedRecord, decides_sealed_record, decides_zero, one_read, reads_one}
 use Rattle.record_layouts.specs.declared.head.HeadRec.{HeadRec}
 use Rattle.record_layouts.specs.Head.{FitsHead, IsHead, fits_head, head_fields, head_in}
 use Rattle.record_layouts.specs.declared.sig.SigRec.{SigRec}
@@ -15,7 +15,7 @@ use Rattle.record_layouts.specs.Cache.{FitsCache, IsCache, fits_cache, cache_fie
 use Rattle.record_layouts.specs.declared.term.TermRec.{TermRec}
 use Rattle.record_layouts.specs.Term.{FitsTerm, IsTerm, fits_term, term_fields, term_in}
 use Rattle.record_layouts.specs.declared.exit.ExitRec.{ExitRec}
-use Rattle.record_layouts.specs.Exit.{FitsExit, IsExit, fits_exit, exit_fields, exit_in}
+use Rattle.record_layouts.specs.Exit.{IsExit, fits_exit, exit_fields, exit_in}
 use Rattle.record_layouts.specs.declared.row.RowRec.{RowRec}
 use Rattle.record_layouts.specs.Row.{IsRow, row_fields, row_in}
 use Rattle.record_layouts.specs.declared.file.FileRec.{FileRec}

@@ -1,15 +1,15 @@
 -- What stores of single words of an area make of its records: those of the frames of owners and of tables set words of
 -- these, and those of the intent block and of spare frames set none.
-use Rattle.std.proofs.Common.{◌≡◌, ◌≢◌, ℕ, ◌+◌, ◌-◌, ◌*◌, ◌/◌, ◌%◌, ◌<◌, ◌≤◌, ◌⊎◌, Bool, true, false, if◌then◌else◌, nat_lt, ◌==◌, ◌&&◌, List, [], Option, Some, None, refl, sym, ◌∙◌, ap, arith, inl, inr}
+use Rattle.std.proofs.Common.{◌≡◌, ℕ, ◌+◌, ◌*◌, ◌/◌, ◌%◌, ◌<◌, ◌≤◌, ◌⊎◌, Bool, true, false, if◌then◌else◌, nat_lt, ◌==◌, ◌&&◌, List, [], Option, Some, None, refl, ◌∙◌, ap, arith, inl, inr}
 use Rattle.std.proofs.lemmas.Grind.{common_steps}
-use Rattle.std.proofs.lemmas.Bool.{cases_Bool, cases_eq, cases_lt, eq-eqb, le-ltb, lt-ltb, ltb-true, ne_eqb}
+use Rattle.std.proofs.lemmas.Bool.{cases_Bool, cases_lt, eq-eqb, le-ltb, lt-ltb, ltb-true, ne_eqb}
 use Rattle.std.proofs.lemmas.Bool.Decides.{nat_tests}
 use Rattle.ow_base.specs.Sv32.{WordMap}
 use Rattle.record_layouts.specs.declared.memory_map.MemoryMap.{MemoryMap}
 use Rattle.record_layouts.specs.declared.places.RecordId.{RecordId}
 use Rattle.record_layouts.specs.declared.places.RecordId.TheVariants as id
 use Rattle.record_layouts.specs.Places.{IsRecordId, first_word, length_of}
-use Rattle.record_layouts.specs.Overlay.{Area, area_at, gate_of, may_change, gate_word, laid, or_none, open_ranges, overlay, words_from, WordRange}
+use Rattle.record_layouts.specs.Overlay.{Area, area_at, gate_of, may_change, gate_word, laid, or_none, open_ranges, overlay, WordRange}
 use Rattle.record_layouts.specs.Spelling.{lies_between}
 use Rattle.record_layouts.specs.Tests.{decides_between}
 use Rattle.record_layouts.specs.Held.{with_area_words, with_owner_words, with_table_words}
@@ -24,7 +24,7 @@ use Rattle.record_layouts.specs.Cache.{cache_in}
 use Rattle.record_layouts.specs.Term.{term_in}
 use Rattle.record_layouts.specs.Row.{row_in}
 use Rattle.record_layouts.specs.Exit.{exit_in}
-use Rattle.record_layouts.proofs.Intents.{open_ranges-same, overlay-beside, within_part, words_from-same}
+use Rattle.record_layouts.proofs.Intents.{open_ranges-same, overlay-beside, words_from-same}
 use Rattle.record_layouts.proofs.Seam.{read_at, same_where, stays}
 
 -- an intent may change each word of a record
@@ -78,22 +78,22 @@ pub block_stays : (map : MemoryMap) (is_readable : Bool) (some other : Area)
 unfolding records_in
 block_stays map is_readable some other head rest =
     let same : (number : ℕ) → may_change number (number + 1) ≡ true → some number ≡ other number =
-    λ number changes. elim (cases_lt number 16) [ | inl low ↦ head number low | inr high ↦ rest number (grind (arith, nat_tests)) ] in
-  λ j. record {
-    map = map;
-    head = same_head_read some other same is_readable j;
-    procs = λ i. same_procs some other same i j;
-    sigs = λ i. same_sigs some other same i j;
-    descs = λ i. same_descs some other same i j;
-    files = λ i. same_files some other same i j;
-    caches = λ i. same_caches some other same i j;
-    terms = λ i. same_terms some other same i j;
-    rows = λ i. same_rows some other same i j;
-    exits = λ i. same_exits some other same i j;
-    owners = λ i. ap (λ w. if nat_lt i map.user_frames then w else 0) (rest (10240 + i) (omega arith)) j;
-    cache_owners = λ i. ap (λ w. if nat_lt i 64 then w else 0) (rest (11200 + i) (omega arith)) j;
-    table_words = λ s t w. ap (λ n. if nat_lt s 16 && nat_lt t 3 && nat_lt w 1024 then n else 0) (rest (1024 * (16 + 3 * s + t) + w) (omega arith)) j;
-  }
+    λ number changes. elim (cases_lt number 16) [ inl low ↦ head number low | inr high ↦ rest number (grind (arith, nat_tests)) ] in
+    λ j. record {
+      map = map;
+      head = same_head_read some other same is_readable j;
+      procs = λ i. same_procs some other same i j;
+      sigs = λ i. same_sigs some other same i j;
+      descs = λ i. same_descs some other same i j;
+      files = λ i. same_files some other same i j;
+      caches = λ i. same_caches some other same i j;
+      terms = λ i. same_terms some other same i j;
+      rows = λ i. same_rows some other same i j;
+      exits = λ i. same_exits some other same i j;
+      owners = λ i. ap (λ w. if nat_lt i map.user_frames then w else 0) (rest (10240 + i) (omega arith)) j;
+      cache_owners = λ i. ap (λ w. if nat_lt i 64 then w else 0) (rest (11200 + i) (omega arith)) j;
+      table_words = λ s t w. ap (λ n. if nat_lt s 16 && nat_lt t 3 && nat_lt w 1024 then n else 0) (rest (1024 * (16 + 3 * s + t) + w) (omega arith)) j;
+    }
 
 -- two ways to ask the same of a slot, a table, a word, their frame and the word's test
 asked_first : (slot table word frame hit : Bool) (some other : ℕ) → (table && word && frame && hit ≡ true → slot ≡ true)
@@ -158,64 +158,64 @@ module _ (map : MemoryMap) (room : map.user_frames ≤ 384) (is_readable : Bool)
   owner_words_set : frame ≡ 10 → records_in map is_readable (with_frame_words area frame hit value) ≡ with_owner_words (records_in map is_readable area) hit value
   unfolding records_in
   owner_words_set is =
-    let after = with_frame_words area frame hit value in
-    λ j. record {
-      map = map;
-      head = same_head_read after area (beside_intents area frame hit value (inl is)) is_readable j;
-      procs = λ i. same_procs after area (beside_intents area frame hit value (inl is)) i j;
-      sigs = λ i. same_sigs after area (beside_intents area frame hit value (inl is)) i j;
-      descs = λ i. same_descs after area (beside_intents area frame hit value (inl is)) i j;
-      files = λ i. same_files after area (beside_intents area frame hit value (inl is)) i j;
-      caches = λ i. same_caches after area (beside_intents area frame hit value (inl is)) i j;
-      terms = λ i. same_terms after area (beside_intents area frame hit value (inl is)) i j;
-      rows = λ i. same_rows after area (beside_intents area frame hit value (inl is)) i j;
-      exits = λ i. same_exits after area (beside_intents area frame hit value (inl is)) i j;
-      owners = λ i. owner_set area frame hit value (nat_lt i map.user_frames) (10240 + i) i (λ holds. let less = ltb-true i map.user_frames holds in omega arith) (λ holds. let less = ltb-true i map.user_frames holds in omega arith) j;
-      cache_owners = λ i. owner_set area frame hit value (nat_lt i 64) (11200 + i) (960 + i) (λ holds. let less = ltb-true i 64 holds in omega arith) (λ holds. let less = ltb-true i 64 holds in omega arith) j;
-      table_words = λ s t w. table_stays area frame hit value s t w (omega arith) j;
-    }
+      let after = with_frame_words area frame hit value in
+      λ j. record {
+        map = map;
+        head = same_head_read after area (beside_intents area frame hit value (inl is)) is_readable j;
+        procs = λ i. same_procs after area (beside_intents area frame hit value (inl is)) i j;
+        sigs = λ i. same_sigs after area (beside_intents area frame hit value (inl is)) i j;
+        descs = λ i. same_descs after area (beside_intents area frame hit value (inl is)) i j;
+        files = λ i. same_files after area (beside_intents area frame hit value (inl is)) i j;
+        caches = λ i. same_caches after area (beside_intents area frame hit value (inl is)) i j;
+        terms = λ i. same_terms after area (beside_intents area frame hit value (inl is)) i j;
+        rows = λ i. same_rows after area (beside_intents area frame hit value (inl is)) i j;
+        exits = λ i. same_exits after area (beside_intents area frame hit value (inl is)) i j;
+        owners = λ i. owner_set area frame hit value (nat_lt i map.user_frames) (10240 + i) i (λ holds. let less = ltb-true i map.user_frames holds in omega arith) (λ holds. let less = ltb-true i map.user_frames holds in omega arith) j;
+        cache_owners = λ i. owner_set area frame hit value (nat_lt i 64) (11200 + i) (960 + i) (λ holds. let less = ltb-true i 64 holds in omega arith) (λ holds. let less = ltb-true i 64 holds in omega arith) j;
+        table_words = λ s t w. table_stays area frame hit value s t w (omega arith) j;
+      }
 
   -- the frames of no records
   spare_words_stay : 12 ≤ frame → frame < 16 → records_in map is_readable (with_frame_words area frame hit value) ≡ records_in map is_readable area
   unfolding records_in
   spare_words_stay past less_frame =
-    let after = with_frame_words area frame hit value in
-    λ j. record {
-      map = map;
-      head = same_head_read after area (beside_intents area frame hit value (inr past)) is_readable j;
-      procs = λ i. same_procs after area (beside_intents area frame hit value (inr past)) i j;
-      sigs = λ i. same_sigs after area (beside_intents area frame hit value (inr past)) i j;
-      descs = λ i. same_descs after area (beside_intents area frame hit value (inr past)) i j;
-      files = λ i. same_files after area (beside_intents area frame hit value (inr past)) i j;
-      caches = λ i. same_caches after area (beside_intents area frame hit value (inr past)) i j;
-      terms = λ i. same_terms after area (beside_intents area frame hit value (inr past)) i j;
-      rows = λ i. same_rows after area (beside_intents area frame hit value (inr past)) i j;
-      exits = λ i. same_exits after area (beside_intents area frame hit value (inr past)) i j;
-      owners = λ i. owner_stays area frame hit value (nat_lt i map.user_frames) (10240 + i) past (λ holds. let less = ltb-true i map.user_frames holds in omega arith) j;
-      cache_owners = λ i. owner_stays area frame hit value (nat_lt i 64) (11200 + i) past (λ holds. let less = ltb-true i 64 holds in omega arith) j;
-      table_words = λ s t w. table_stays area frame hit value s t w less_frame j;
-    }
+      let after = with_frame_words area frame hit value in
+      λ j. record {
+        map = map;
+        head = same_head_read after area (beside_intents area frame hit value (inr past)) is_readable j;
+        procs = λ i. same_procs after area (beside_intents area frame hit value (inr past)) i j;
+        sigs = λ i. same_sigs after area (beside_intents area frame hit value (inr past)) i j;
+        descs = λ i. same_descs after area (beside_intents area frame hit value (inr past)) i j;
+        files = λ i. same_files after area (beside_intents area frame hit value (inr past)) i j;
+        caches = λ i. same_caches after area (beside_intents area frame hit value (inr past)) i j;
+        terms = λ i. same_terms after area (beside_intents area frame hit value (inr past)) i j;
+        rows = λ i. same_rows after area (beside_intents area frame hit value (inr past)) i j;
+        exits = λ i. same_exits after area (beside_intents area frame hit value (inr past)) i j;
+        owners = λ i. owner_stays area frame hit value (nat_lt i map.user_frames) (10240 + i) past (λ holds. let less = ltb-true i map.user_frames holds in omega arith) j;
+        cache_owners = λ i. owner_stays area frame hit value (nat_lt i 64) (11200 + i) past (λ holds. let less = ltb-true i 64 holds in omega arith) j;
+        table_words = λ s t w. table_stays area frame hit value s t w less_frame j;
+      }
 
   -- the frames of tables
   table_words_set : 16 ≤ frame → frame < 64 → records_in map is_readable (with_frame_words area frame hit value) ≡ with_table_words (records_in map is_readable area) frame hit value
   unfolding records_in
   table_words_set past less_frame =
-    let after = with_frame_words area frame hit value in
-    λ j. record {
-      map = map;
-      head = same_head_read after area (beside_intents area frame hit value (inr (omega arith))) is_readable j;
-      procs = λ i. same_procs after area (beside_intents area frame hit value (inr (omega arith))) i j;
-      sigs = λ i. same_sigs after area (beside_intents area frame hit value (inr (omega arith))) i j;
-      descs = λ i. same_descs after area (beside_intents area frame hit value (inr (omega arith))) i j;
-      files = λ i. same_files after area (beside_intents area frame hit value (inr (omega arith))) i j;
-      caches = λ i. same_caches after area (beside_intents area frame hit value (inr (omega arith))) i j;
-      terms = λ i. same_terms after area (beside_intents area frame hit value (inr (omega arith))) i j;
-      rows = λ i. same_rows after area (beside_intents area frame hit value (inr (omega arith))) i j;
-      exits = λ i. same_exits after area (beside_intents area frame hit value (inr (omega arith))) i j;
-      owners = λ i. owner_stays area frame hit value (nat_lt i map.user_frames) (10240 + i) (omega arith) (λ holds. let less = ltb-true i map.user_frames holds in omega arith) j;
-      cache_owners = λ i. owner_stays area frame hit value (nat_lt i 64) (11200 + i) (omega arith) (λ holds. let less = ltb-true i 64 holds in omega arith) j;
-      table_words = λ s t w. tables_set area frame hit value s t w less_frame j;
-    }
+      let after = with_frame_words area frame hit value in
+      λ j. record {
+        map = map;
+        head = same_head_read after area (beside_intents area frame hit value (inr (omega arith))) is_readable j;
+        procs = λ i. same_procs after area (beside_intents area frame hit value (inr (omega arith))) i j;
+        sigs = λ i. same_sigs after area (beside_intents area frame hit value (inr (omega arith))) i j;
+        descs = λ i. same_descs after area (beside_intents area frame hit value (inr (omega arith))) i j;
+        files = λ i. same_files after area (beside_intents area frame hit value (inr (omega arith))) i j;
+        caches = λ i. same_caches after area (beside_intents area frame hit value (inr (omega arith))) i j;
+        terms = λ i. same_terms after area (beside_intents area frame hit value (inr (omega arith))) i j;
+        rows = λ i. same_rows after area (beside_intents area frame hit value (inr (omega arith))) i j;
+        exits = λ i. same_exits after area (beside_intents area frame hit value (inr (omega arith))) i j;
+        owners = λ i. owner_stays area frame hit value (nat_lt i map.user_frames) (10240 + i) (omega arith) (λ holds. let less = ltb-true i map.user_frames holds in omega arith) j;
+        cache_owners = λ i. owner_stays area frame hit value (nat_lt i 64) (11200 + i) (omega arith) (λ holds. let less = ltb-true i 64 holds in omega arith) j;
+        table_words = λ s t w. tables_set area frame hit value s t w less_frame j;
+      }
 
   -- so words of a frame that are set by themselves set those words of the records that they are
   pub area_words_set : (frame ≡ 10) ⊎ (12 ≤ frame) → frame < 64
@@ -242,9 +242,9 @@ module _ (area : Area) where
 
   open_readable : (ranges : List WordRange) → open_ranges area ≡ Some ranges → is_readable_gate (gate_of area) ≡ true
   open_readable ranges is = elim (cases_Bool (area gate_word == 0)) [
-      | inl holds ↦ rw holds refl
-      | inr fails ↦ rw (fails, is) refl
-    ]
+    | inl holds ↦ rw holds refl
+    | inr fails ↦ rw (fails, is) refl
+  ]
 
 module _ (map : MemoryMap) (words : WordMap) where
   pub records_closed : area_at words map.area_base gate_word ≡ 0 → records_of map words ≡ records_in map true (area_at words map.area_base)
@@ -266,7 +266,7 @@ module _ (map : MemoryMap) (words : WordMap) where
 module _ (area other : Area) (frame : ℕ) (hit : ℕ → Bool) (value : ℕ → ℕ) (where_it_is : (frame ≡ 10) ⊎ (12 ≤ frame))
     (set_there : (number : ℕ) → other number ≡ with_frame_words area frame hit value number) where
   far : 10 ≤ frame
-  far = elim where_it_is [ | inl owners ↦ omega arith | inr tables ↦ omega arith ]
+  far = elim where_it_is [ inl owners ↦ omega arith | inr tables ↦ omega arith ]
 
   same_low : (number : ℕ) → number < 1024 → other number ≡ area number
   same_low number low = set_there number ∙ other_frame area frame hit value number (λ is. let past = far in omega arith)
@@ -278,7 +278,7 @@ module _ (area other : Area) (frame : ℕ) (hit : ℕ → Bool) (value : ℕ →
   same_gate = let gates : other gate_word ≡ area gate_word = same_low gate_word (omega arith) in rw (gates, same_block) refl
 
   stays_there : (number : ℕ) → number / 1024 ≡ frame → may_change number (number + 1) ≡ false
-  stays_there number is = elim where_it_is [ | inl owners ↦ stays number (inl (omega arith, omega arith)) | inr tables ↦ stays number (inr (omega arith)) ]
+  stays_there number is = elim where_it_is [ inl owners ↦ stays number (inl (omega arith, omega arith)) | inr tables ↦ stays number (inr (omega arith)) ]
 
   set_in_overlay : (number : ℕ) → overlay other number ≡ with_frame_words (overlay area) frame hit value number
   unfolding overlay

@@ -1,14 +1,13 @@
 -- Whether the fields of a record are in their ranges, as tests.
-use Rattle.std.proofs.Common.{◌≡◌, ℕ, ◌+◌, ◌<◌, ◌≤◌, ◌⊎◌, Bool, true, ◌&&◌, ◌||◌, nat_le, ◌==◌, List, length, take, slice_index, All, EachIndex, refl, arith, inl, inr}
-use Rattle.std.proofs.lemmas.Grind.{common_steps}
+use Rattle.std.proofs.Common.{ℕ, ◌+◌, ◌<◌, ◌≤◌, nat_le, List, length, take, slice_index, All, EachIndex, refl, arith}
 use Rattle.std.proofs.lemmas.Bool.Decides.{nat_tests, Decides-and, Decides-by_and, Decides-eqb, Decides-like}
-use Rattle.std.proofs.lemmas.List.Elements.{All-from_get_or, All-get_or, All-weaker}
+use Rattle.std.proofs.lemmas.List.Elements.{All-from_get_or, All-get_or}
 use Rattle.std.specs.Bool.{Decides}
 use Rattle.std.specs.List.{list_all}
 use Rattle.ow_base.specs.World.{IsName}
 use Rattle.ow_base.specs.declared.machine.Bank.{Bank}
 use Rattle.record_layouts.specs.Tests.{decides_below, decides_between, decides_status, decides_zero}
-use Rattle.record_layouts.specs.Spelling.{AreZero, are_below, lies_between}
+use Rattle.record_layouts.specs.Spelling.{are_below, lies_between}
 use Rattle.record_layouts.specs.declared.head.HeadRec.{HeadRec}
 use Rattle.record_layouts.specs.Head.{FitsHead, fits_head}
 use Rattle.record_layouts.specs.declared.proc.ProcRec.{ProcRec}
