@@ -1,15 +1,15 @@
 -- What stores of single words of an area make of its records: those of the frames of owners and of tables set words of
 -- these, and those of the intent block and of spare frames set none.
-use Rattle.std.proofs.Common.{◌≡◌, ◌≢◌, ℕ, ◌+◌, ◌-◌, ◌*◌, ◌/◌, ◌%◌, ◌<◌, ◌≤◌, ◌⊎◌, Bool, true, false, if◌then◌else◌, nat_lt, ◌==◌, ◌&&◌, List, [], Option, Some, None, refl, sym, ◌∙◌, ap, arith, inl, inr}
+use Rattle.std.proofs.Common.{◌≡◌, ℕ, ◌+◌, ◌*◌, ◌/◌, ◌%◌, ◌<◌, ◌≤◌, ◌⊎◌, Bool, true, false, if◌then◌else◌, nat_lt, ◌==◌, ◌&&◌, List, [], Option, Some, None, refl, ◌∙◌, ap, arith, inl, inr}
 use Rattle.std.proofs.lemmas.Grind.{common_steps}
-use Rattle.std.proofs.lemmas.Bool.{cases_Bool, cases_eq, cases_lt, eq-eqb, le-ltb, lt-ltb, ltb-true, ne_eqb}
+use Rattle.std.proofs.lemmas.Bool.{cases_Bool, cases_lt, eq-eqb, le-ltb, lt-ltb, ltb-true, ne_eqb}
 use Rattle.std.proofs.lemmas.Bool.Decides.{nat_tests}
 use Rattle.ow_base.specs.Sv32.{WordMap}
 use Rattle.record_layouts.specs.declared.memory_map.MemoryMap.{MemoryMap}
 use Rattle.record_layouts.specs.declared.places.RecordId.{RecordId}
 use Rattle.record_layouts.specs.declared.places.RecordId.TheVariants as id
 use Rattle.record_layouts.specs.Places.{IsRecordId, first_word, length_of}
-use Rattle.record_layouts.specs.Overlay.{Area, area_at, gate_of, may_change, gate_word, laid, or_none, open_ranges, overlay, words_from, WordRange}
+use Rattle.record_layouts.specs.Overlay.{Area, area_at, gate_of, may_change, gate_word, laid, or_none, open_ranges, overlay, WordRange}
 use Rattle.record_layouts.specs.Spelling.{lies_between}
 use Rattle.record_layouts.specs.Tests.{decides_between}
 use Rattle.record_layouts.specs.Held.{with_area_words, with_owner_words, with_table_words}
@@ -24,19 +24,23 @@ use Rattle.record_layouts.specs.Cache.{cache_in}
 use Rattle.record_layouts.specs.Term.{term_in}
 use Rattle.record_layouts.specs.Row.{row_in}
 use Rattle.record_layouts.specs.Exit.{exit_in}
-use Rattle.record_layouts.proofs.Intents.{open_ranges-same, overlay-beside, within_part, words_from-same}
+use Rattle.record_layouts.proofs.Intents.{open_ranges-same, overlay-beside, words_from-same}
 use Rattle.record_layouts.proofs.Seam.{read_at, same_where, stays}
 
 -- an intent may change each word of a record
-may_change_each : (one : RecordId) → IsRecordId one → (number : ℕ) → first_word one ≤ number → number < first_word one + length_of one → may_change number (number + 1) ≡ true
+may_change_each : (one : RecordId) → IsRecordId one → (number : ℕ) → first_word one ≤ number
+    → number < first_word one + length_of one → may_change number (number + 1) ≡ true
 may_change_each one there number from to = grind (arith, common_steps, nat_tests)
 
 -- records that are read from areas which have the same words where an intent may change them
-module _ (some other : Area) (same : (number : ℕ) → may_change number (number + 1) ≡ true → some number ≡ other number) where
+module _ (some other : Area) (same : (number : ℕ) → may_change number (number + 1) ≡ true → some number
+    ≡ other number) where
   same_words : (one : RecordId) → IsRecordId one → words_of some one ≡ words_of other one
-  same_words one there = words_from-same some other (first_word one) (length_of one) (λ number from to. same number (may_change_each one there number from to))
+  same_words one there = words_from-same some other (first_word one) (length_of one)
+      (λ number from to. same number (may_change_each one there number from to))
 
-  same_read : {A : Type 0} (read : List ℕ → Option A) (kind : ℕ → RecordId) (test : ℕ → Bool) → ((i : ℕ) → test i ≡ true → IsRecordId (kind i))
+  same_read : {A : Type 0} (read : List ℕ → Option A) (kind : ℕ → RecordId) (test : ℕ → Bool)
+      → ((i : ℕ) → test i ≡ true → IsRecordId (kind i))
       → (i : ℕ) → read_at read kind test some i ≡ read_at read kind test other i
   same_read read kind test valid i =
       elim (cases_Bool (test i)) [
@@ -44,41 +48,56 @@ module _ (some other : Area) (same : (number : ℕ) → may_change number (numbe
         | inr fails ↦ rw fails refl
       ]
 
-  same_head_read : (is_readable : Bool) → (if is_readable then head_in (words_of some id.Head) else None) ≡ (if is_readable then head_in (words_of other id.Head) else None)
+  same_head_read : (is_readable : Bool) → (if is_readable then head_in (words_of some id.Head) else None)
+      ≡ (if is_readable then head_in (words_of other id.Head) else None)
   same_head_read is_readable = ap (λ words. if is_readable then head_in words else None) (same_words id.Head tt)
 
-  same_procs : (i : ℕ) → (if nat_lt i 16 then proc_in (words_of some (id.Proc i)) else None) ≡ (if nat_lt i 16 then proc_in (words_of other (id.Proc i)) else None)
+  same_procs : (i : ℕ) → (if nat_lt i 16 then proc_in (words_of some (id.Proc i)) else None)
+      ≡ (if nat_lt i 16 then proc_in (words_of other (id.Proc i)) else None)
   same_procs = same_read proc_in (λ i. id.Proc i) (λ i. nat_lt i 16) (λ i holds. ltb-true i 16 holds)
 
-  same_sigs : (i : ℕ) → (if nat_lt i 16 then sig_in (words_of some (id.Sig i)) else None) ≡ (if nat_lt i 16 then sig_in (words_of other (id.Sig i)) else None)
+  same_sigs : (i : ℕ) → (if nat_lt i 16 then sig_in (words_of some (id.Sig i)) else None)
+      ≡ (if nat_lt i 16 then sig_in (words_of other (id.Sig i)) else None)
   same_sigs = same_read sig_in (λ i. id.Sig i) (λ i. nat_lt i 16) (λ i holds. ltb-true i 16 holds)
 
-  same_descs : (i : ℕ) → (if nat_lt i 32 then desc_in (words_of some (id.Desc i)) else None) ≡ (if nat_lt i 32 then desc_in (words_of other (id.Desc i)) else None)
+  same_descs : (i : ℕ) → (if nat_lt i 32 then desc_in (words_of some (id.Desc i)) else None)
+      ≡ (if nat_lt i 32 then desc_in (words_of other (id.Desc i)) else None)
   same_descs = same_read desc_in (λ i. id.Desc i) (λ i. nat_lt i 32) (λ i holds. ltb-true i 32 holds)
 
-  same_files : (i : ℕ) → (if nat_lt i 32 then file_in (words_of some (id.File i)) else None) ≡ (if nat_lt i 32 then file_in (words_of other (id.File i)) else None)
+  same_files : (i : ℕ) → (if nat_lt i 32 then file_in (words_of some (id.File i)) else None)
+      ≡ (if nat_lt i 32 then file_in (words_of other (id.File i)) else None)
   same_files = same_read file_in (λ i. id.File i) (λ i. nat_lt i 32) (λ i holds. ltb-true i 32 holds)
 
-  same_caches : (i : ℕ) → (if nat_lt i 64 then cache_in (words_of some (id.Cache i)) else None) ≡ (if nat_lt i 64 then cache_in (words_of other (id.Cache i)) else None)
+  same_caches : (i : ℕ) → (if nat_lt i 64 then cache_in (words_of some (id.Cache i)) else None)
+      ≡ (if nat_lt i 64 then cache_in (words_of other (id.Cache i)) else None)
   same_caches = same_read cache_in (λ i. id.Cache i) (λ i. nat_lt i 64) (λ i holds. ltb-true i 64 holds)
 
-  same_terms : (i : ℕ) → (if nat_lt i 2 then term_in (words_of some (id.Term i)) else None) ≡ (if nat_lt i 2 then term_in (words_of other (id.Term i)) else None)
+  same_terms : (i : ℕ) → (if nat_lt i 2 then term_in (words_of some (id.Term i)) else None)
+      ≡ (if nat_lt i 2 then term_in (words_of other (id.Term i)) else None)
   same_terms = same_read term_in (λ i. id.Term i) (λ i. nat_lt i 2) (λ i holds. ltb-true i 2 holds)
 
-  same_rows : (i : ℕ) → (if nat_lt i 48 then row_in (words_of some (id.Row i)) else None) ≡ (if nat_lt i 48 then row_in (words_of other (id.Row i)) else None)
+  same_rows : (i : ℕ) → (if nat_lt i 48 then row_in (words_of some (id.Row i)) else None)
+      ≡ (if nat_lt i 48 then row_in (words_of other (id.Row i)) else None)
   same_rows = same_read row_in (λ i. id.Row i) (λ i. nat_lt i 48) (λ i holds. ltb-true i 48 holds)
 
-  same_exits : (i : ℕ) → (if lies_between 1 256 i then exit_in (words_of some (id.Exit i)) else None) ≡ (if lies_between 1 256 i then exit_in (words_of other (id.Exit i)) else None)
-  same_exits = same_read exit_in (λ i. id.Exit i) (λ i. lies_between 1 256 i) (λ i holds. (decides_between 1 256 i).0 holds)
+  same_exits : (i : ℕ) → (if lies_between 1 256 i then exit_in (words_of some (id.Exit i)) else None)
+      ≡ (if lies_between 1 256 i then exit_in (words_of other (id.Exit i)) else None)
+  same_exits = same_read exit_in (λ i. id.Exit i) (λ i. lies_between 1 256 i)
+      (λ i holds. (decides_between 1 256 i).0 holds)
 
 -- words of which none is of a record, an owner or a table do not count
 pub block_stays : (map : MemoryMap) (is_readable : Bool) (some other : Area)
-    → ((number : ℕ) → number < 16 → some number ≡ other number) → ((number : ℕ) → 1024 ≤ number → some number ≡ other number)
+    → ((number : ℕ) → number < 16 → some number ≡ other number)
+    → ((number : ℕ) → 1024 ≤ number → some number ≡ other number)
     → records_in map is_readable some ≡ records_in map is_readable other
 unfolding records_in
 block_stays map is_readable some other head rest =
     let same : (number : ℕ) → may_change number (number + 1) ≡ true → some number ≡ other number =
-    λ number changes. elim (cases_lt number 16) [ inl low ↦ head number low | inr high ↦ rest number (grind (arith, nat_tests)) ] in
+    λ number changes. elim (cases_lt number 16) [
+      | inl low ↦ head number low
+      | inr high ↦ rest number
+          (grind (arith, nat_tests))
+    ] in
     λ j. record {
       map = map;
       head = same_head_read some other same is_readable j;
@@ -92,7 +111,8 @@ block_stays map is_readable some other head rest =
       exits = λ i. same_exits some other same i j;
       owners = λ i. ap (λ w. if nat_lt i map.user_frames then w else 0) (rest (10240 + i) (omega arith)) j;
       cache_owners = λ i. ap (λ w. if nat_lt i 64 then w else 0) (rest (11200 + i) (omega arith)) j;
-      table_words = λ s t w. ap (λ n. if nat_lt s 16 && nat_lt t 3 && nat_lt w 1024 then n else 0) (rest (1024 * (16 + 3 * s + t) + w) (omega arith)) j;
+      table_words = λ s t w. ap (λ n. if nat_lt s 16 && nat_lt t 3 && nat_lt w 1024 then n else 0)
+          (rest (1024 * (16 + 3 * s + t) + w) (omega arith)) j;
     }
 
 -- two ways to ask the same of a slot, a table, a word, their frame and the word's test
@@ -115,15 +135,18 @@ module _ (area : Area) (frame : ℕ) (hit : ℕ → Bool) (value : ℕ → ℕ) 
   other_frame : (number : ℕ) → (number / 1024 ≡ frame → ⊥) → with_frame_words area frame hit value number ≡ area number
   other_frame number other = rw (ne_eqb (number / 1024) frame other) refl
 
-  this_frame : (number word : ℕ) → number / 1024 ≡ frame → number % 1024 ≡ word → with_frame_words area frame hit value number ≡ (if hit word then value word else area number)
+  this_frame : (number word : ℕ) → number / 1024 ≡ frame → number % 1024 ≡ word
+      → with_frame_words area frame hit value number ≡ (if hit word then value word else area number)
   this_frame number word is place = rw (eq-eqb (number / 1024) frame is, place) refl
 
-  beside_intents : ((frame ≡ 10) ⊎ (12 ≤ frame)) → (number : ℕ) → may_change number (number + 1) ≡ true → with_frame_words area frame hit value number ≡ area number
+  beside_intents : ((frame ≡ 10) ⊎ (12 ≤ frame)) → (number : ℕ) → may_change number (number + 1) ≡ true
+      → with_frame_words area frame hit value number ≡ area number
   beside_intents (inl owners) number changes = other_frame number (λ is. grind (arith, nat_tests))
   beside_intents (inr tables) number changes = other_frame number (λ is. grind (arith, nat_tests))
 
   -- the words that name owners, in the frame of these and in others
-  owner_set : (test : Bool) (number word : ℕ) → (test ≡ true → number / 1024 ≡ frame) → (test ≡ true → number % 1024 ≡ word)
+  owner_set : (test : Bool) (number word : ℕ) → (test ≡ true → number / 1024 ≡ frame)
+      → (test ≡ true → number % 1024 ≡ word)
       → (if test then with_frame_words area frame hit value number else 0)
       ≡ (if test && hit word then value word else if test then area number else 0)
   owner_set true number word is place = this_frame number word (is refl) (place refl)
@@ -131,11 +154,13 @@ module _ (area : Area) (frame : ℕ) (hit : ℕ → Bool) (value : ℕ → ℕ) 
 
   owner_stays : (test : Bool) (number : ℕ) → 12 ≤ frame → (test ≡ true → number < 11264)
       → (if test then with_frame_words area frame hit value number else 0) ≡ (if test then area number else 0)
-  owner_stays test number past small = same_where test _ _ (λ holds. other_frame number (λ is. omega (arith, small holds)))
+  owner_stays test number past small = same_where test _ _
+      (λ holds. other_frame number (λ is. omega (arith, small holds)))
 
   -- and the words of tables
   tables_set : (s t w : ℕ) → frame < 64
-      → (if nat_lt s 16 && nat_lt t 3 && nat_lt w 1024 then with_frame_words area frame hit value (1024 * (16 + 3 * s + t) + w) else 0)
+      → (if nat_lt s 16 && nat_lt t 3 && nat_lt w 1024 then with_frame_words area frame hit value
+      (1024 * (16 + 3 * s + t) + w) else 0)
       ≡ (if nat_lt t 3 && nat_lt w 1024 && 16 + 3 * s + t == frame && hit w then value w
       else if nat_lt s 16 && nat_lt t 3 && nat_lt w 1024 then area (1024 * (16 + 3 * s + t) + w) else 0)
   tables_set s t w less =
@@ -145,17 +170,22 @@ module _ (area : Area) (frame : ℕ) (hit : ℕ → Bool) (value : ℕ → ℕ) 
       let quotient : number / 1024 ≡ 16 + 3 * s + t = omega arith in
       let rest : number % 1024 ≡ w = omega arith in
       rw (quotient, rest) refl)
-      ∙ asked_first (nat_lt s 16) (nat_lt t 3) (nat_lt w 1024) (16 + 3 * s + t == frame) (hit w) (value w) (area number) (λ told. grind (arith, nat_tests))
+      ∙ asked_first (nat_lt s 16) (nat_lt t 3) (nat_lt w 1024) (16 + 3 * s + t == frame) (hit w) (value w)
+      (area number) (λ told. grind (arith, nat_tests))
 
   table_stays : (s t w : ℕ) → frame < 16
-      → (if nat_lt s 16 && nat_lt t 3 && nat_lt w 1024 then with_frame_words area frame hit value (1024 * (16 + 3 * s + t) + w) else 0)
+      → (if nat_lt s 16 && nat_lt t 3 && nat_lt w 1024 then with_frame_words area frame hit value
+      (1024 * (16 + 3 * s + t) + w) else 0)
       ≡ (if nat_lt s 16 && nat_lt t 3 && nat_lt w 1024 then area (1024 * (16 + 3 * s + t) + w) else 0)
   table_stays s t w less =
-      same_where (nat_lt s 16 && nat_lt t 3 && nat_lt w 1024) _ _ (λ holds. other_frame (1024 * (16 + 3 * s + t) + w) (λ is. omega arith))
+      same_where (nat_lt s 16 && nat_lt t 3 && nat_lt w 1024) _ _ (λ holds. other_frame (1024 * (16 + 3 * s + t) + w)
+      (λ is. omega arith))
 
-module _ (map : MemoryMap) (room : map.user_frames ≤ 384) (is_readable : Bool) (area : Area) (frame : ℕ) (hit : ℕ → Bool) (value : ℕ → ℕ) where
+module _ (map : MemoryMap) (room : map.user_frames ≤ 384) (is_readable : Bool) (area : Area) (frame : ℕ)
+    (hit : ℕ → Bool) (value : ℕ → ℕ) where
   -- the frame of owners
-  owner_words_set : frame ≡ 10 → records_in map is_readable (with_frame_words area frame hit value) ≡ with_owner_words (records_in map is_readable area) hit value
+  owner_words_set : frame ≡ 10 → records_in map is_readable (with_frame_words area frame hit value) ≡ with_owner_words
+      (records_in map is_readable area) hit value
   unfolding records_in
   owner_words_set is =
       let after = with_frame_words area frame hit value in
@@ -170,13 +200,18 @@ module _ (map : MemoryMap) (room : map.user_frames ≤ 384) (is_readable : Bool)
         terms = λ i. same_terms after area (beside_intents area frame hit value (inl is)) i j;
         rows = λ i. same_rows after area (beside_intents area frame hit value (inl is)) i j;
         exits = λ i. same_exits after area (beside_intents area frame hit value (inl is)) i j;
-        owners = λ i. owner_set area frame hit value (nat_lt i map.user_frames) (10240 + i) i (λ holds. let less = ltb-true i map.user_frames holds in omega arith) (λ holds. let less = ltb-true i map.user_frames holds in omega arith) j;
-        cache_owners = λ i. owner_set area frame hit value (nat_lt i 64) (11200 + i) (960 + i) (λ holds. let less = ltb-true i 64 holds in omega arith) (λ holds. let less = ltb-true i 64 holds in omega arith) j;
+        owners = λ i. owner_set area frame hit value (nat_lt i map.user_frames) (10240 + i) i
+            (λ holds. let less = ltb-true i map.user_frames holds in omega arith)
+            (λ holds. let less = ltb-true i map.user_frames holds in omega arith) j;
+        cache_owners = λ i. owner_set area frame hit value (nat_lt i 64) (11200 + i) (960 + i)
+            (λ holds. let less = ltb-true i 64 holds in omega arith)
+            (λ holds. let less = ltb-true i 64 holds in omega arith) j;
         table_words = λ s t w. table_stays area frame hit value s t w (omega arith) j;
       }
 
   -- the frames of no records
-  spare_words_stay : 12 ≤ frame → frame < 16 → records_in map is_readable (with_frame_words area frame hit value) ≡ records_in map is_readable area
+  spare_words_stay : 12 ≤ frame → frame < 16 → records_in map is_readable (with_frame_words area frame hit value)
+      ≡ records_in map is_readable area
   unfolding records_in
   spare_words_stay past less_frame =
       let after = with_frame_words area frame hit value in
@@ -191,13 +226,16 @@ module _ (map : MemoryMap) (room : map.user_frames ≤ 384) (is_readable : Bool)
         terms = λ i. same_terms after area (beside_intents area frame hit value (inr past)) i j;
         rows = λ i. same_rows after area (beside_intents area frame hit value (inr past)) i j;
         exits = λ i. same_exits after area (beside_intents area frame hit value (inr past)) i j;
-        owners = λ i. owner_stays area frame hit value (nat_lt i map.user_frames) (10240 + i) past (λ holds. let less = ltb-true i map.user_frames holds in omega arith) j;
-        cache_owners = λ i. owner_stays area frame hit value (nat_lt i 64) (11200 + i) past (λ holds. let less = ltb-true i 64 holds in omega arith) j;
+        owners = λ i. owner_stays area frame hit value (nat_lt i map.user_frames) (10240 + i) past
+            (λ holds. let less = ltb-true i map.user_frames holds in omega arith) j;
+        cache_owners = λ i. owner_stays area frame hit value (nat_lt i 64) (11200 + i) past
+            (λ holds. let less = ltb-true i 64 holds in omega arith) j;
         table_words = λ s t w. table_stays area frame hit value s t w less_frame j;
       }
 
   -- the frames of tables
-  table_words_set : 16 ≤ frame → frame < 64 → records_in map is_readable (with_frame_words area frame hit value) ≡ with_table_words (records_in map is_readable area) frame hit value
+  table_words_set : 16 ≤ frame → frame < 64 → records_in map is_readable (with_frame_words area frame hit value)
+      ≡ with_table_words (records_in map is_readable area) frame hit value
   unfolding records_in
   table_words_set past less_frame =
       let after = with_frame_words area frame hit value in
@@ -212,19 +250,23 @@ module _ (map : MemoryMap) (room : map.user_frames ≤ 384) (is_readable : Bool)
         terms = λ i. same_terms after area (beside_intents area frame hit value (inr (omega arith))) i j;
         rows = λ i. same_rows after area (beside_intents area frame hit value (inr (omega arith))) i j;
         exits = λ i. same_exits after area (beside_intents area frame hit value (inr (omega arith))) i j;
-        owners = λ i. owner_stays area frame hit value (nat_lt i map.user_frames) (10240 + i) (omega arith) (λ holds. let less = ltb-true i map.user_frames holds in omega arith) j;
-        cache_owners = λ i. owner_stays area frame hit value (nat_lt i 64) (11200 + i) (omega arith) (λ holds. let less = ltb-true i 64 holds in omega arith) j;
+        owners = λ i. owner_stays area frame hit value (nat_lt i map.user_frames) (10240 + i) (omega arith)
+            (λ holds. let less = ltb-true i map.user_frames holds in omega arith) j;
+        cache_owners = λ i. owner_stays area frame hit value (nat_lt i 64) (11200 + i) (omega arith)
+            (λ holds. let less = ltb-true i 64 holds in omega arith) j;
         table_words = λ s t w. tables_set area frame hit value s t w less_frame j;
       }
 
   -- so words of a frame that are set by themselves set those words of the records that they are
   pub area_words_set : (frame ≡ 10) ⊎ (12 ≤ frame) → frame < 64
-      → records_in map is_readable (with_frame_words area frame hit value) ≡ with_area_words (records_in map is_readable area) frame hit value
+      → records_in map is_readable (with_frame_words area frame hit value) ≡ with_area_words
+      (records_in map is_readable area) frame hit value
   area_words_set (inl is) less_frame = owner_words_set is ∙ rw (eq-eqb frame 10 is) refl
   area_words_set (inr past) less_frame =
       elim (cases_lt frame 16) [
         | inl spare ↦ spare_words_stay past spare ∙ rw (ne_eqb frame 10 (λ is. omega arith), lt-ltb frame 16 spare) refl
-        | inr table ↦ table_words_set table less_frame ∙ rw (ne_eqb frame 10 (λ is. omega arith), le-ltb frame 16 table) refl
+        | inr table ↦ table_words_set table less_frame
+            ∙ rw (ne_eqb frame 10 (λ is. omega arith), le-ltb frame 16 table) refl
       ]
 
 -- what is read of an area whose gate is closed, and of one in which a valid intent is open
@@ -233,7 +275,8 @@ module _ (area : Area) where
   unfolding open_ranges
   closed_ranges closed = grind (arith, nat_tests)
 
-  overlay_is : (ranges : List WordRange) → or_none (open_ranges area) ≡ ranges → overlay area ≡ (λ number. laid ranges number (area number))
+  overlay_is : (ranges : List WordRange) → or_none (open_ranges area) ≡ ranges → overlay area
+      ≡ (λ number. laid ranges number (area number))
   unfolding overlay
   overlay_is ranges is = λ j. λ number. laid (is j) number (area number)
 
@@ -247,7 +290,8 @@ module _ (area : Area) where
   ]
 
 module _ (map : MemoryMap) (words : WordMap) where
-  pub records_closed : area_at words map.area_base gate_word ≡ 0 → records_of map words ≡ records_in map true (area_at words map.area_base)
+  pub records_closed : area_at words map.area_base gate_word ≡ 0 → records_of map words ≡ records_in map true
+      (area_at words map.area_base)
   unfolding records_of laid
   records_closed closed =
       let area = area_at words map.area_base in
@@ -275,10 +319,15 @@ module _ (area other : Area) (frame : ℕ) (hit : ℕ → Bool) (value : ℕ →
   same_block = open_ranges-same other area (λ number low high. same_low number high)
 
   same_gate : gate_of other ≡ gate_of area
-  same_gate = let gates : other gate_word ≡ area gate_word = same_low gate_word (omega arith) in rw (gates, same_block) refl
+  same_gate = let gates : other gate_word ≡ area gate_word = same_low gate_word (omega arith) in rw
+      (gates, same_block) refl
 
   stays_there : (number : ℕ) → number / 1024 ≡ frame → may_change number (number + 1) ≡ false
-  stays_there number is = elim where_it_is [ inl owners ↦ stays number (inl (omega arith, omega arith)) | inr tables ↦ stays number (inr (omega arith)) ]
+  stays_there number is = elim where_it_is [
+    | inl owners ↦ stays number
+        (inl (omega arith, omega arith))
+    | inr tables ↦ stays number (inr (omega arith))
+  ]
 
   set_in_overlay : (number : ℕ) → overlay other number ≡ with_frame_words (overlay area) frame hit value number
   unfolding overlay
@@ -291,8 +340,10 @@ module _ (area other : Area) (frame : ℕ) (hit : ℕ → Bool) (value : ℕ →
       ]
 
 -- so words of a frame of the area that are set by themselves set those words of the records that they are
-pub stored_words_set : (map : MemoryMap) → map.user_frames ≤ 384 → (some other : WordMap) (frame : ℕ) (hit : ℕ → Bool) (value : ℕ → ℕ) → (frame ≡ 10) ⊎ (12 ≤ frame) → frame < 64
-    → ((number : ℕ) → area_at other map.area_base number ≡ with_frame_words (area_at some map.area_base) frame hit value number)
+pub stored_words_set : (map : MemoryMap) → map.user_frames ≤ 384 → (some other : WordMap) (frame : ℕ) (hit : ℕ → Bool)
+    (value : ℕ → ℕ) → (frame ≡ 10) ⊎ (12 ≤ frame) → frame < 64
+    → ((number : ℕ) → area_at other map.area_base number ≡ with_frame_words
+    (area_at some map.area_base) frame hit value number)
     → records_of map other ≡ with_area_words (records_of map some) frame hit value
 unfolding records_of
 stored_words_set map room some other frame hit value where_it_is less_frame set_there =
@@ -302,47 +353,3 @@ stored_words_set map room some other frame hit value where_it_is less_frame set_
     let shown = set_in_overlay area after frame hit value where_it_is set_there in
     (λ j. records_in map (is_readable_gate (gate j)) (λ number. shown number j))
     ∙ area_words_set map room (is_readable_gate (gate_of area)) (overlay area) frame hit value where_it_is less_frame
-
--- words behind the area are of no record of it
-module _ (map : MemoryMap) (room : map.user_frames ≤ 384) (area : Area) (frame : ℕ) (hit : ℕ → Bool) (value : ℕ → ℕ) (past : 64 ≤ frame) where
-  behind_table : (s t w : ℕ) → (if nat_lt s 16 && nat_lt t 3 && nat_lt w 1024 then with_frame_words area frame hit value (1024 * (16 + 3 * s + t) + w) else 0)
-      ≡ (if nat_lt s 16 && nat_lt t 3 && nat_lt w 1024 then area (1024 * (16 + 3 * s + t) + w) else 0)
-  behind_table s t w =
-      same_where (nat_lt s 16 && nat_lt t 3 && nat_lt w 1024) _ _
-      (λ holds. let low : 16 + 3 * s + t < 64 = grind (arith, nat_tests) in
-      let small : w < 1024 = grind (arith, nat_tests) in
-      other_frame area frame hit value (1024 * (16 + 3 * s + t) + w) (λ is. omega arith))
-
-  behind_words_stay : (is_readable : Bool) → records_in map is_readable (with_frame_words area frame hit value) ≡ records_in map is_readable area
-  unfolding records_in
-  behind_words_stay is_readable =
-      let after = with_frame_words area frame hit value in
-      let beside = beside_intents area frame hit value (inr (omega arith)) in
-      λ j. record {
-        map = map;
-        head = same_head_read after area beside is_readable j;
-        procs = λ i. same_procs after area beside i j;
-        sigs = λ i. same_sigs after area beside i j;
-        descs = λ i. same_descs after area beside i j;
-        files = λ i. same_files after area beside i j;
-        caches = λ i. same_caches after area beside i j;
-        terms = λ i. same_terms after area beside i j;
-        rows = λ i. same_rows after area beside i j;
-        exits = λ i. same_exits after area beside i j;
-        owners = λ i. owner_stays area frame hit value (nat_lt i map.user_frames) (10240 + i) (omega arith) (λ holds. let less = ltb-true i map.user_frames holds in omega arith) j;
-        cache_owners = λ i. owner_stays area frame hit value (nat_lt i 64) (11200 + i) (omega arith) (λ holds. let less = ltb-true i 64 holds in omega arith) j;
-        table_words = λ s t w. behind_table s t w j;
-      }
-
-pub behind_words_kept : (map : MemoryMap) → map.user_frames ≤ 384 → (some other : WordMap) (frame : ℕ) (hit : ℕ → Bool) (value : ℕ → ℕ) → 64 ≤ frame
-    → ((number : ℕ) → area_at other map.area_base number ≡ with_frame_words (area_at some map.area_base) frame hit value number)
-    → records_of map other ≡ records_of map some
-unfolding records_of
-behind_words_kept map room some other frame hit value past set_there =
-    let area = area_at some map.area_base in
-    let after = area_at other map.area_base in
-    let where_it_is : (frame ≡ 10) ⊎ (12 ≤ frame) = inr (omega arith) in
-    let gate = same_gate area after frame hit value where_it_is set_there in
-    let shown = set_in_overlay area after frame hit value where_it_is set_there in
-    (λ j. records_in map (is_readable_gate (gate j)) (λ number. shown number j))
-    ∙ behind_words_stay map room (overlay area) frame hit value past (is_readable_gate (gate_of area))

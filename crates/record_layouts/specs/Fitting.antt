@@ -1,14 +1,13 @@
 -- Whether the fields of a record are in their ranges, as tests.
-use Rattle.std.proofs.Common.{◌≡◌, ℕ, ◌+◌, ◌<◌, ◌≤◌, ◌⊎◌, Bool, true, ◌&&◌, ◌||◌, nat_le, ◌==◌, List, length, take, slice_index, All, EachIndex, refl, arith, inl, inr}
-use Rattle.std.proofs.lemmas.Grind.{common_steps}
+use Rattle.std.proofs.Common.{ℕ, ◌+◌, ◌<◌, ◌≤◌, nat_le, List, length, take, slice_index, All, EachIndex, refl, arith}
 use Rattle.std.proofs.lemmas.Bool.Decides.{nat_tests, Decides-and, Decides-by_and, Decides-eqb, Decides-like}
-use Rattle.std.proofs.lemmas.List.Elements.{All-from_get_or, All-get_or, All-weaker}
+use Rattle.std.proofs.lemmas.List.Elements.{All-from_get_or, All-get_or}
 use Rattle.std.specs.Bool.{Decides}
 use Rattle.std.specs.List.{list_all}
 use Rattle.ow_base.specs.World.{IsName}
 use Rattle.ow_base.specs.declared.machine.Bank.{Bank}
 use Rattle.record_layouts.specs.Tests.{decides_below, decides_between, decides_status, decides_zero}
-use Rattle.record_layouts.specs.Spelling.{AreZero, are_below, lies_between}
+use Rattle.record_layouts.specs.Spelling.{are_below, lies_between}
 use Rattle.record_layouts.specs.declared.head.HeadRec.{HeadRec}
 use Rattle.record_layouts.specs.Head.{FitsHead, fits_head}
 use Rattle.record_layouts.specs.declared.proc.ProcRec.{ProcRec}
@@ -56,16 +55,26 @@ fits_exit-decides exit = grind (arith, nat_tests, decides_status)
 is_name-decides : (name : List ℕ) → Decides (is_name name) (IsName name)
 unfolding is_name
 is_name-decides name =
-    let each : Decides (list_all (λ byte. lies_between 33 126 byte) name) (All (λ byte. (33 ≤ byte) × (byte ≤ 126)) name) =
-    Decides-by_and (λ byte. lies_between 33 126 byte) (λ byte. (33 ≤ byte) × (byte ≤ 126)) (list_all (λ byte. lies_between 33 126 byte)) (λ byte. decides_between 33 126 byte) refl (λ _ _. refl) name in
+    let each : Decides (list_all (λ byte. lies_between 33 126 byte) name)
+    (All (λ byte. (33 ≤ byte) × (byte ≤ 126)) name) =
+    Decides-by_and (λ byte. lies_between 33 126 byte) (λ byte. (33 ≤ byte) × (byte ≤ 126))
+    (list_all (λ byte. lies_between 33 126 byte)) (λ byte. decides_between 33 126 byte) refl (λ _ _. refl) name in
     Decides-like (is_name name)
-    (λ is. record { shortest = is.0.0; longest = is.0.1; lowest = λ k d within. (is.1 k d within).0; highest = λ k d within. (is.1 k d within).1 })
+    (λ is. record {
+      shortest = is.0.0;
+      longest = is.0.1;
+      lowest = λ k d within.
+          (is.1 k d within).0;
+      highest = λ k d within. (is.1 k d within).1;
+    })
     (λ is. ((is.shortest, is.longest), λ k d within. (is.lowest k d within, is.highest k d within)))
-    (Decides-and (lies_between 1 24 (length name)) (list_all (λ byte. lies_between 33 126 byte) name) (decides_between 1 24 (length name)) each)
+    (Decides-and (lies_between 1 24 (length name)) (list_all (λ byte. lies_between 33 126 byte) name)
+    (decides_between 1 24 (length name)) each)
 
 fits_state-decides : (file : FileRec) → Decides (fits_state file) (FitsState file)
 unfolding fits_state
-fits_state-decides file = let name = is_name-decides (take file.name_len file.name) in grind (arith, nat_tests, name.0, name.1)
+fits_state-decides file = let name = is_name-decides (take file.name_len file.name) in grind
+    (arith, nat_tests, name.0, name.1)
 
 pub fits_file-decides : (file : FileRec) → Decides (fits_file file) (FitsFile file)
 unfolding fits_file
@@ -84,7 +93,9 @@ fits_file-decides file =
       past_kept = is.1;
     })
     (λ is. (((((is.state, is.name_length), is.past_name), is.kept), is.sectors), is.past_kept))
-    (Decides-and _ _ (Decides-and _ _ (Decides-and _ _ (Decides-and _ _ (Decides-and _ _ state (Decides-leb file.name_len 24)) name) (Decides-leb file.kept 64)) sectors) behind)
+    (Decides-and _ _ (Decides-and _ _
+    (Decides-and _ _ (Decides-and _ _ (Decides-and _ _ state (Decides-leb file.name_len 24)) name)
+    (Decides-leb file.kept 64)) sectors) behind)
 
 is_blank_bank-decides : (bank : Bank) → Decides (is_blank_bank bank) (IsBlankBank bank)
 unfolding is_blank_bank
@@ -112,7 +123,11 @@ fits_live-decides process =
       descs = is.1;
     })
     (λ is. (((((((is.pid, is.parent), is.code_pages), is.data_pages), is.heap_end), is.flags), is.status), is.descs))
-    (Decides-and _ _ (Decides-and _ _ (Decides-and _ _ (Decides-and _ _ (Decides-and _ _ (Decides-and _ _ (Decides-and _ _ (decides_between 1 256 process.pid) (Decides-leb process.parent 256)) (decides_between 1 64 process.code_pages)) (Decides-leb process.data_pages 64)) room) (Decides-leb process.flags 3)) (Decides-eqb process.status 0)) descs)
+    (Decides-and _ _ (Decides-and _ _
+    (Decides-and _ _ (Decides-and _ _
+    (Decides-and _ _ (Decides-and _ _ (Decides-and _ _ (decides_between 1 256 process.pid)
+    (Decides-leb process.parent 256)) (decides_between 1 64 process.code_pages))
+    (Decides-leb process.data_pages 64)) room) (Decides-leb process.flags 3)) (Decides-eqb process.status 0)) descs)
 
 is_over-decides : (process : ProcRec) → Decides (is_over process) (IsOver process)
 unfolding is_over
@@ -133,8 +148,32 @@ is_over-decides process =
       handler_save = is.0.1;
       crash_save = is.1;
     })
-    (λ is. ((((((((((((is.call, is.done), is.code_pages), is.data_pages), is.brk), is.procedure), is.mask), is.flags), is.descs), is.regs), is.pc), is.handler_save), is.crash_save))
-    (Decides-and _ _ (Decides-and _ _ (Decides-and _ _ (Decides-and _ _ (Decides-and _ _ (Decides-and _ _ (Decides-and _ _ (Decides-and _ _ (Decides-and _ _ (Decides-and _ _ (Decides-and _ _ (Decides-and _ _ (Decides-eqb process.call 0) (Decides-eqb process.done 0)) (Decides-eqb process.code_pages 0)) (Decides-eqb process.data_pages 0)) (Decides-eqb process.brk 0)) (Decides-eqb process.procedure 0)) (Decides-eqb process.mask 0)) (Decides-eqb process.flags 0)) (decides_zero process.descs 0 8)) (decides_zero process.regs 0 31)) (Decides-eqb process.pc 0)) (is_blank_bank-decides process.handler_save)) (is_blank_bank-decides process.crash_save))
+    (λ is. (
+      (
+        (
+          (
+            (
+              (((((((is.call, is.done), is.code_pages), is.data_pages), is.brk), is.procedure), is.mask), is.flags),
+              is.descs,
+            ),
+            is.regs,
+          ),
+          is.pc,
+        ),
+        is.handler_save,
+      ),
+      is.crash_save,
+    ))
+    (Decides-and _ _ (Decides-and _ _
+    (Decides-and _ _ (Decides-and _ _
+    (Decides-and _ _ (Decides-and _ _
+    (Decides-and _ _ (Decides-and _ _
+    (Decides-and _ _ (Decides-and _ _
+    (Decides-and _ _ (Decides-and _ _ (Decides-eqb process.call 0) (Decides-eqb process.done 0))
+    (Decides-eqb process.code_pages 0)) (Decides-eqb process.data_pages 0)) (Decides-eqb process.brk 0))
+    (Decides-eqb process.procedure 0)) (Decides-eqb process.mask 0)) (Decides-eqb process.flags 0))
+    (decides_zero process.descs 0 8)) (decides_zero process.regs 0 31)) (Decides-eqb process.pc 0))
+    (is_blank_bank-decides process.handler_save)) (is_blank_bank-decides process.crash_save))
 
 fits_free-decides : (process : ProcRec) → Decides (fits_free process) (FitsFree process)
 unfolding fits_free
@@ -142,7 +181,8 @@ fits_free-decides process = let over = is_over-decides process in grind (arith, 
 
 fits_ended-decides : (process : ProcRec) → Decides (fits_ended process) (FitsEnded process)
 unfolding fits_ended
-fits_ended-decides process = let over = is_over-decides process in let status = decides_status process.status in grind (arith, nat_tests, over.0, over.1, status.0, status.1)
+fits_ended-decides process = let over = is_over-decides process in let status = decides_status process.status in grind
+    (arith, nat_tests, over.0, over.1, status.0, status.1)
 
 pub fits_proc-decides : (process : ProcRec) → Decides (fits_proc process) (FitsProc process)
 unfolding fits_proc

@@ -1,4 +1,5 @@
--- The state of the Unix that never panics, what its turns make of it, and which words are a record of which value.
+-- The state of the Unix that never panics, what its turns make of it, which words are a record of which value, and
+-- which records the words of an area hold.
 pub mod Unix
 pub mod Calls
 pub mod Choice

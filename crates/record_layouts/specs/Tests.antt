@@ -1,8 +1,8 @@
 -- The tests by which words are read, and what they decide.
-use Rattle.std.proofs.Common.{◌≡◌, ℕ, ◌+◌, ◌-◌, ◌^◌, ◌<◌, ◌≤◌, Bool, true, nat_lt, ◌==◌, ◌&&◌, List, length, slice_index, take, drop, get_or, All, Option, Some, None, refl, sym, ◌∙◌, ap, subst, arith, inl, inr}
+use Rattle.std.proofs.Common.{◌≡◌, ℕ, ◌+◌, ◌-◌, ◌^◌, ◌<◌, ◌≤◌, Bool, true, nat_lt, ◌==◌, List, length, slice_index, take, drop, get_or, All, Option, Some, None, refl, sym, ◌∙◌, subst, arith, inl, inr}
 use Rattle.std.proofs.lemmas.Grind.{common_steps}
 use Rattle.std.proofs.lemmas.Bool.{cases_lt, cases_Bool}
-use Rattle.std.proofs.lemmas.Bool.Decides.{nat_tests, Decides-and, Decides-by_and, Decides-eqb, Decides-like, Decides-ltb}
+use Rattle.std.proofs.lemmas.Bool.Decides.{nat_tests, Decides-by_and, Decides-eqb, Decides-like, Decides-ltb}
 use Rattle.std.proofs.lemmas.List.Elements.{All-from_get_or, All-get_or}
 use Rattle.std.specs.Bool.{Decides}
 use Rattle.std.specs.List.{list_all}
@@ -12,10 +12,12 @@ use Rattle.record_layouts.specs.Spelling.{AreZero, IsStatus, are_below, are_zero
 pub decides_below : (bound : ℕ) (words : List ℕ) → Decides (are_below bound words) (All (λ word. word < bound) words)
 unfolding are_below
 decides_below bound words =
-    Decides-by_and (λ word. nat_lt word bound) (λ word. word < bound) (list_all (λ word. nat_lt word bound)) (λ word. Decides-ltb word bound) refl (λ _ _. refl) words
+    Decides-by_and (λ word. nat_lt word bound) (λ word. word < bound) (list_all (λ word. nat_lt word bound))
+    (λ word. Decides-ltb word bound) refl (λ _ _. refl) words
 
 -- a list is below a bound at each place where all of its words are, and behind its end it is 0
-below_at : (bound : ℕ) (words : List ℕ) → 0 < bound → All (λ word. word < bound) words → (k : ℕ) → slice_index words k < bound
+below_at : (bound : ℕ) (words : List ℕ) → 0 < bound → All (λ word. word < bound) words → (k : ℕ)
+    → slice_index words k < bound
 below_at bound words some all k =
     elim (cases_lt k (length words)) [
       | inl within ↦ All-get_or (λ word. word < bound) words k 0 within all
@@ -24,31 +26,39 @@ below_at bound words some all k =
 
 pub decides_words : (words : List ℕ) → Decides (are_below (2 ^ 32) words) (AreWords words)
 decides_words words =
-    Decides-like (are_below (2 ^ 32) words) (below_at (2 ^ 32) words (omega arith)) (λ fits. All-from_get_or (λ word. word < 2 ^ 32) words 0 (λ k within. fits k))
+    Decides-like (are_below (2 ^ 32) words) (below_at (2 ^ 32) words (omega arith))
+    (λ fits. All-from_get_or (λ word. word < 2 ^ 32) words 0 (λ k within. fits k))
     (decides_below (2 ^ 32) words)
 
-part_at : (words : List ℕ) (first end k : ℕ) → k < end - first → get_or (take (end - first) (drop first words)) k 0 ≡ get_or words (first + k) 0
+part_at : (words : List ℕ) (first end k : ℕ) → k < end - first → get_or (take (end - first) (drop first words)) k 0
+    ≡ get_or words (first + k) 0
 part_at words first end k less = grind (arith, common_steps)
 
-zero_at : (words : List ℕ) (first end : ℕ) → All (λ word. word ≡ 0) (take (end - first) (drop first words)) → AreZero words first end
+zero_at : (words : List ℕ) (first end : ℕ) → All (λ word. word ≡ 0) (take (end - first) (drop first words))
+    → AreZero words first end
 zero_at words first end all k from to =
     let place : first + (k - first) ≡ k = omega arith in
-    let here : get_or (take (end - first) (drop first words)) (k - first) 0 ≡ get_or words k 0 = rw place at (part_at words first end (k - first) (omega arith)) in
+    let here : get_or (take (end - first) (drop first words)) (k - first) 0 ≡ get_or words k 0 = rw place at
+    (part_at words first end (k - first) (omega arith)) in
     elim (cases_lt (k - first) (length (take (end - first) (drop first words)))) [
-      | inl within ↦ sym here ∙ All-get_or (λ word. word ≡ 0) (take (end - first) (drop first words)) (k - first) 0 within all
+      | inl within ↦ sym here ∙ All-get_or (λ word. word ≡ 0) (take (end - first) (drop first words))
+          (k - first) 0 within all
       | inr behind ↦ sym here ∙ grind (arith, common_steps)
     ]
 
-zero_in : (words : List ℕ) (first end : ℕ) → AreZero words first end → All (λ word. word ≡ 0) (take (end - first) (drop first words))
+zero_in : (words : List ℕ) (first end : ℕ) → AreZero words first end → All (λ word. word ≡ 0)
+    (take (end - first) (drop first words))
 zero_in words first end zero =
     All-from_get_or (λ word. word ≡ 0) (take (end - first) (drop first words)) 0
-    (λ k within. let less : k < end - first = grind (arith, common_steps) in part_at words first end k less ∙ zero (first + k) (omega arith) (omega arith))
+    (λ k within. let less : k < end - first = grind (arith, common_steps) in part_at words first end k less
+    ∙ zero (first + k) (omega arith) (omega arith))
 
 pub decides_zero : (words : List ℕ) (first end : ℕ) → Decides (are_zero words first end) (AreZero words first end)
 unfolding are_zero
 decides_zero words first end =
     Decides-like (are_zero words first end) (zero_at words first end) (zero_in words first end)
-    (Decides-by_and (λ word. word == 0) (λ word. word ≡ 0) (list_all (λ word. word == 0)) (λ word. Decides-eqb word 0) refl (λ _ _. refl) (take (end - first) (drop first words)))
+    (Decides-by_and (λ word. word == 0) (λ word. word ≡ 0) (list_all (λ word. word == 0))
+    (λ word. Decides-eqb word 0) refl (λ _ _. refl) (take (end - first) (drop first words)))
 
 pub decides_between : (first last n : ℕ) → Decides (lies_between first last n) ((first ≤ n) × (n ≤ last))
 decides_between first last n = grind (arith, nat_tests)
@@ -64,11 +74,18 @@ pub record IsSealedRecord (count first : ℕ) (words : List ℕ) : Type 0 where
   pub kind : slice_index words 0 ≡ first
   pub seal : IsSealed words
 
-pub decides_sealed_record : (count first : ℕ) (words : List ℕ) → Decides (is_sealed_record count first words) (IsSealedRecord count first words)
+pub decides_sealed_record : (count first : ℕ) (words : List ℕ) → Decides (is_sealed_record count first words)
+    (IsSealedRecord count first words)
 unfolding is_sealed_record
 decides_sealed_record count first words =
     let are = decides_words words in (
-      λ yes. record { long = grind (arith, nat_tests); all_words = grind (arith, nat_tests, are.0); kind = grind (arith, nat_tests); seal = grind (arith, nat_tests) },
+      λ yes. record {
+        long = grind (arith, nat_tests);
+        all_words = grind (arith, nat_tests, are.0);
+        kind = grind
+            (arith, nat_tests);
+        seal = grind (arith, nat_tests);
+      },
       λ is. grind (arith, nat_tests, are.1 is.all_words, is.long, is.kind, is.seal),
     )
 
@@ -86,6 +103,7 @@ module _ {A : Type 0} (P : A → Type 0) (test : Bool) (value : A) (decides : De
   ]
 
 -- where nothing can be read there is nothing
-pub reads_none : {A : Type 0} (P : A → Type 0) (read : Option A) → ((a : A) → read ≡ Some a → P a) → ((a : A) → P a → ⊥) → None ≡ read
+pub reads_none : {A : Type 0} (P : A → Type 0) (read : Option A) → ((a : A) → read ≡ Some a → P a)
+    → ((a : A) → P a → ⊥) → None ≡ read
 reads_none P (Some a) is none = absurd (none a (is a refl))
 reads_none P None is none = refl

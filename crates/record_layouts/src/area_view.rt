@@ -19,12 +19,12 @@ use crate::term::TermRec;
 use crate::view::RecordView;
 use ow_base::WordSource;
 
-// The frame of the words that name the owners of frames, and the first of those words that names one of a cache entry.
+// The first word that names the owner of a user frame, and the first that names the owner of a cache entry.
 const OWNERS: u32 = 10 * FRAME;
 
 const CACHE_OWNERS: u32 = OWNERS + 960;
 
-// The first word of the page tables, of which each slot has so many.
+// The first word of the page tables, and how many tables each slot has.
 const TABLES: u32 = 16 * FRAME;
 
 const TABLES_OF_SLOT: u32 = 3;

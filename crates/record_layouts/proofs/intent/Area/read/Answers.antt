@@ -1,4 +1,4 @@
-use Rattle.std.proofs.Common.{length, arith}
+use Rattle.std.proofs.Common.{arith}
 use Rattle.record_layouts.proofs.Ranges.{words_from-each}
 use Rattle.record_layouts.proofs.intent.Area.read.Goals as goal
 
