@@ -1,12 +1,11 @@
 -- What a plant holds after words were stored that are of no record.
-use Rattle.std.proofs.Common.{◌≡◌, ℕ, suc, ◌+◌, ◌-◌, ◌*◌, ◌/◌, ◌%◌, ◌<◌, ◌≤◌, Bool, true, false, nat_lt, not, ◌&&◌, ◌||◌, ◌==◌, if◌then◌else◌, List, [], Option, Some, None, is_some, refl, sym, ap, subst, ◌∙◌, ◌⊎◌, arith, inl, inr}
+use Rattle.std.proofs.Common.{◌≡◌, ℕ, ◌+◌, ◌-◌, ◌/◌, ◌<◌, ◌≤◌, Bool, true, false, nat_lt, ◌&&◌, ◌==◌, if◌then◌else◌, [], Some, is_some, refl, ap, ◌∙◌, ◌⊎◌, arith, inl, inr}
 use Rattle.std.proofs.lemmas.Bool.{cases_Bool, cases_lt}
 use Rattle.std.proofs.lemmas.Bool.Decides.{nat_tests}
 use Rattle.ow_base.specs.Sv32.{WordMap, word_or_zero}
-use Rattle.ow_plant.specs.State.{IsArmed, PlantState}
+use Rattle.ow_plant.specs.State.{PlantState}
 use Rattle.phys_memory.specs.Memory.{words_of}
-use Rattle.record_layouts.specs.declared.memory_map.MemoryMap.{MemoryMap}
-use Rattle.record_layouts.specs.Held.{Held, Records, beside, is_direct, is_of_area, with_area_words, with_words}
+use Rattle.record_layouts.specs.Held.{Records, beside, is_direct, is_of_area, with_area_words, with_words}
 use Rattle.record_layouts.specs.Overlay.{Area, area_at, gate_of, overlay}
 use Rattle.record_layouts.specs.Reading.{is_readable_gate, records_in, records_of}
 use Rattle.record_layouts.specs.Seam.{with_frame_words}
@@ -44,15 +43,15 @@ module _ (words : WordMap) (base frame : ℕ) (hit : ℕ → Bool) (value : ℕ 
 
 area_head : (r : Records) (frame : ℕ) (hit : ℕ → Bool) (value : ℕ → ℕ) → (with_area_words r frame hit value).head ≡ r.head
 area_head r frame hit value = elim (cases_Bool (frame == 10)) [
-    | inl owners ↦ rw owners refl
-    | inr other ↦ rw other (elim (cases_Bool (nat_lt frame 16)) [ | inl spare ↦ rw spare refl | inr table ↦ rw table refl ])
-  ]
+  | inl owners ↦ rw owners refl
+  | inr other ↦ rw other (elim (cases_Bool (nat_lt frame 16)) [ inl spare ↦ rw spare refl | inr table ↦ rw table refl ])
+]
 
 direct_place : (base frame : ℕ) → is_direct base frame ≡ true → is_of_area base frame ≡ true → (base ≤ frame) × (frame - base < 64) × ((frame - base ≡ 10) ⊎ (12 ≤ frame - base))
 direct_place base frame direct of =
     let low : base ≤ frame = grind (arith, nat_tests) in
     let high : frame - base < 64 = grind (arith, nat_tests) in
-    let place : (frame - base ≡ 10) ⊎ (12 ≤ frame - base) = elim (cases_lt (frame - base) 12) [ | inl less ↦ inl (grind (arith, nat_tests)) | inr more ↦ inr more ] in
+    let place : (frame - base ≡ 10) ⊎ (12 ≤ frame - base) = elim (cases_lt (frame - base) 12) [ inl less ↦ inl (grind (arith, nat_tests)) | inr more ↦ inr more ] in
     (low, high, place)
 
 module _ (old new : PlantState) (frame : ℕ) (hit : ℕ → Bool) (value : ℕ → ℕ) (few : old.shape.user_frames ≤ 384) (rest : rest_of new ≡ rest_of old)
@@ -78,30 +77,30 @@ module _ (old new : PlantState) (frame : ℕ) (hit : ℕ → Bool) (value : ℕ 
   records_beside : is_of_area (map_of old).area_base frame ≡ false → records_held new ≡ records_held old
   unfolding after records_of
   records_beside of = records_after ∙ elim (cases_lt frame (map_of old).area_base) [
-      | inl before ↦ ap (λ (a : Area). records_in (map_of old) (is_readable_gate (gate_of a)) (overlay a)) (area_before (words_of old.memory) (map_of old).area_base frame hit value before)
-      | inr behind ↦
-          let past : 64 ≤ frame - (map_of old).area_base = grind (arith, nat_tests) in
-          behind_words_kept (map_of old) few (words_of old.memory) after (frame - (map_of old).area_base) hit value past (area_within (words_of old.memory) (map_of old).area_base frame hit value behind)
-    ]
+    | inl before ↦ ap (λ (a : Area). records_in (map_of old) (is_readable_gate (gate_of a)) (overlay a)) (area_before (words_of old.memory) (map_of old).area_base frame hit value before)
+    | inr behind ↦
+        let past : 64 ≤ frame - (map_of old).area_base = grind (arith, nat_tests) in
+        behind_words_kept (map_of old) few (words_of old.memory) after (frame - (map_of old).area_base) hit value past (area_within (words_of old.memory) (map_of old).area_base frame hit value behind)
+  ]
 
   pub held_stored : held_of new ≡ with_words (held_of old) frame hit value
   unfolding after with_words records_of records_in
   held_stored = elim (cases_Bool (is_of_area (map_of old).area_base frame)) [
-      | inl of ↦
-          let contents = contents_after ∙ beside_within (words_of old.memory) (map_of old).area_base frame hit value of in
-          let records = records_within of in
-          rw of (λ i. record { records = records i; contents = contents i; disk = []; rest = rest i })
-      | inr of ↦
-          let contents = contents_after ∙ (λ i f w. beside_word (words_of old.memory) (map_of old).area_base frame hit value of f w i) in
-          let records = records_beside of in
-          rw of (λ i. record { records = records i; contents = contents i; disk = []; rest = rest i })
-    ]
+    | inl of ↦
+        let contents = contents_after ∙ beside_within (words_of old.memory) (map_of old).area_base frame hit value of in
+        let records = records_within of in
+        rw of (λ i. record { records = records i; contents = contents i; disk = []; rest = rest i })
+    | inr of ↦
+        let contents = contents_after ∙ (λ i f w. beside_word (words_of old.memory) (map_of old).area_base frame hit value of f w i) in
+        let records = records_beside of in
+        rw of (λ i. record { records = records i; contents = contents i; disk = []; rest = rest i })
+  ]
 
   head_stored : (records_held new).head ≡ (records_held old).head
   head_stored = elim (cases_Bool (is_of_area (map_of old).area_base frame)) [
-      | inl of ↦ ap (λ (r : Records). r.head) (records_within of) ∙ area_head (records_held old) (frame - (map_of old).area_base) hit value
-      | inr of ↦ ap (λ (r : Records). r.head) (records_beside of)
-    ]
+    | inl of ↦ ap (λ (r : Records). r.head) (records_within of) ∙ area_head (records_held old) (frame - (map_of old).area_base) hit value
+    | inr of ↦ ap (λ (r : Records). r.head) (records_beside of)
+  ]
 
   pub standing_stored : IsStanding old → IsStanding new
   standing_stored stands = record {

@@ -16,6 +16,7 @@ use record_layouts::{
 
 // The frames of an area and of the cache, which lie before the user frames.
 const AREA_FRAMES: u32 = 64;
+
 const KERNEL_FRAMES: u32 = 128;
 
 /// The records of the kernel that runs on a plant, and the stores that change them. Its area is the live one.

@@ -10,11 +10,7 @@ use record_layouts::{GATE, INTENT_KIND, PAYLOAD, SEAL};
 
 /// Opens an intent with this payload of 1 to 1,006 words in the area that begins at frame `base`, where none is open: the
 /// payload and the seal are stored first, and the gate opens last.
-pub(crate) fn open<W: WordStore>(
-    store: &mut W,
-    base: u32,
-    payload: &[u32],
-) -> Result<(), Panicked>
+pub(crate) fn open<W: WordStore>(store: &mut W, base: u32, payload: &[u32]) -> Result<(), Panicked>
     requires able { W.able store.old ≡ true }
     requires area { HasArea (W.words store.old) base }
     requires shut { area_at (W.words store.old) base 16 ≡ 0 }
@@ -36,11 +32,7 @@ pub(crate) fn open<W: WordStore>(
 }
 
 // Stores the words of a payload under a closed gate.
-fn store_payload<W: WordStore>(
-    store: &mut W,
-    base: u32,
-    payload: &[u32],
-) -> Result<(), Panicked>
+fn store_payload<W: WordStore>(store: &mut W, base: u32, payload: &[u32]) -> Result<(), Panicked>
     requires able { W.able store.old ≡ true }
     requires area { HasArea (W.words store.old) base }
     requires shut { area_at (W.words store.old) base 16 ≡ 0 }

@@ -1,10 +1,10 @@
-use Rattle.std.proofs.Common.{◌≡◌, ◌∙◌, ◌⊎◌, ap, subst, sym, inl, inr}
+use Rattle.std.proofs.Common.{◌≡◌, ◌⊎◌, ap, subst, sym, inl, inr}
 use Rattle.phys_memory.specs.Memory.{words_of}
 use Rattle.record_layouts.specs.declared.memory_map.MemoryMap.{MemoryMap}
 use Rattle.record_layouts.specs.Held.{patched}
 use Rattle.record_layouts.specs.Overlay.{HasArea, area_at}
 use Rattle.intent_store.specs.Blocks.{IsSeenAs, IsSeenSet}
-use Rattle.intent_store.specs.Live.{IsStanding, held_of, map_of}
+use Rattle.intent_store.specs.Live.{held_of, map_of}
 use Rattle.intent_store.proofs.Outcomes.{on_ok, on_err, either_way}
 use Rattle.intent_store.proofs.Holding.{committed_as, committed_set, has_area, held_either}
 use Rattle.intent_store.proofs.live.LiveWriter.commit.Goals as goal
@@ -30,10 +30,10 @@ returns-clause-err c =
     let items = c.args.patch.now.items.items in
     let is : base ≡ (map_of s).area_base = ap (λ (m : MemoryMap). m.area_base) c.map-base.ensures.map in
     let either : IsSeenAs (area_at (words_of s.memory) base) (area_at (words_of t.memory) base) ⊎ IsSeenSet items (area_at (words_of s.memory) base) (area_at (words_of t.memory) base)
-        → (held_of t ≡ held_of s) ⊎ (held_of t ≡ patched items (held_of s)) = elim [
-          | inl like ↦ inl (committed_as s t base is c.commit.ensures.rest c.commit.ensures.beside like)
-          | inr set ↦ inr (committed_set s t base is c.commit.ensures.rest c.commit.ensures.beside items c.requires.stands.armed.few_frames set)
-        ] in
+    → (held_of t ≡ held_of s) ⊎ (held_of t ≡ patched items (held_of s)) = elim [
+      | inl like ↦ inl (committed_as s t base is c.commit.ensures.rest c.commit.ensures.beside like)
+      | inr set ↦ inr (committed_set s t base is c.commit.ensures.rest c.commit.ensures.beside items c.requires.stands.armed.few_frames set)
+    ] in
     on_err c.commit.result _ _ either c.commit.ensures.err
 
 pub returns-clause-still_stands : goal.returns-clause-still_stands
