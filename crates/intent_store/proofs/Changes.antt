@@ -1,15 +1,14 @@
 -- How the changes of an open intent are carried out.
-use Rattle.std.proofs.Common.{◌≡◌, ℕ, zero, suc, ◌+◌, ◌-◌, ◌*◌, ◌<◌, ◌≤◌, Bool, true, false, if◌then◌else◌, List, Option, Some, None, is_some, refl, sym, ap, subst, ◌∙◌, arith, inl, inr}
+use Rattle.std.proofs.Common.{◌≡◌, ℕ, ◌+◌, ◌-◌, ◌<◌, ◌≤◌, true, false, if◌then◌else◌, List, Option, None, is_some, refl, sym, ap, subst, ◌∙◌, arith, inl, inr}
 use Rattle.std.proofs.lemmas.Bool.{cases_Bool}
 use Rattle.std.proofs.lemmas.Bool.Decides.{nat_tests}
-use Rattle.std.proofs.lemmas.Grind.{common_steps}
 use Rattle.ow_base.specs.Words.{updated}
 use Rattle.record_layouts.specs.declared.intent.Change.{Change}
 use Rattle.record_layouts.specs.Overlay.{Area, EndsOpen, StandsFirst, WordRange, gate_of, gate_word, laid, lies_in, may_change, open_ranges, or_none, overlay, payload_word, ranges_in, values_end, words_from}
 use Rattle.record_layouts.specs.Reading.{is_readable_gate}
 use Rattle.record_layouts.proofs.Intents.{lies_beside, open_ranges-same, words_from-same}
 use Rattle.record_layouts.proofs.Ranges.{is_some-first, laid-first, laid-nothing, laid-rest}
-use Rattle.intent_store.specs.Blocks.{ReadsAs, is_of_block, partly_changed, rolled}
+use Rattle.intent_store.specs.Blocks.{ReadsAs, partly_changed, rolled}
 
 -- no word is in its place yet
 pub partly-none : (change : Change) (area : Area) → area ≡ partly_changed change (change.span.begin - change.span.begin) area

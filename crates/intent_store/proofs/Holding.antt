@@ -1,25 +1,21 @@
 -- What a plant holds after stores.
-use Rattle.std.proofs.Common.{◌≡◌, ℕ, suc, ◌+◌, ◌-◌, ◌*◌, ◌/◌, ◌%◌, ◌<◌, ◌≤◌, Bool, true, false, nat_lt, not, ◌&&◌, ◌==◌, if◌then◌else◌, List, [], ◌∷◌, length, Option, Some, None, is_some, refl, sym, ap, subst, ◌∙◌, ◌⊎◌, arith, inl, inr}
-use Rattle.std.proofs.lemmas.Bool.{cases_Bool}
+use Rattle.std.proofs.Common.{◌≡◌, ℕ, ◌+◌, ◌*◌, ◌<◌, ◌≤◌, Bool, true, false, if◌then◌else◌, List, [], ◌∷◌, Option, None, is_some, refl, ap, subst, ◌∙◌, ◌⊎◌, arith, inl, inr}
 use Rattle.std.proofs.lemmas.Bool.Decides.{nat_tests}
-use Rattle.ow_base.specs.Sv32.{WordMap}
 use Rattle.ow_base.specs.declared.machine.AreaId.{AreaId}
 use Rattle.ow_base.specs.declared.machine.AreaId.TheVariants.{A, B}
 use Rattle.ow_plant.specs.State.{IsArmed, PlantState}
-use Rattle.phys_memory.specs.Memory.{frame_count, words_of}
+use Rattle.phys_memory.specs.Memory.{words_of}
 use Rattle.phys_memory.proofs.Words.{frame_count-sized}
-use Rattle.record_layouts.specs.declared.intent.Gate.{Gate}
-use Rattle.record_layouts.specs.declared.intent.Gate.TheVariants.{Closed, Open, Broken}
+use Rattle.record_layouts.specs.declared.intent.Gate.TheVariants.{Closed}
 use Rattle.record_layouts.specs.declared.memory_map.MemoryMap.{MemoryMap}
 use Rattle.record_layouts.specs.declared.patch.AnyRec.{AnyRec}
 use Rattle.record_layouts.specs.declared.patch.AnyRec.TheVariants as any
 use Rattle.record_layouts.specs.declared.patch.PatchItem.{PatchItem}
 use Rattle.record_layouts.specs.declared.places.RecordId.{RecordId}
 use Rattle.record_layouts.specs.declared.places.RecordId.TheVariants as id
-use Rattle.record_layouts.specs.Head.{head_in}
 use Rattle.record_layouts.specs.declared.head.HeadRec.{HeadRec}
 use Rattle.record_layouts.specs.Held.{Held, Records, beside, patched, with_items, with_record}
-use Rattle.record_layouts.specs.Overlay.{Area, HasArea, area_at, gate_of, gate_word, overlay}
+use Rattle.record_layouts.specs.Overlay.{HasArea, area_at}
 use Rattle.record_layouts.specs.Reading.{is_readable_gate, records_in, records_of}
 use Rattle.intent_store.specs.Blocks.{IsSeenAs, IsSeenSet, seen}
 use Rattle.intent_store.specs.Live.{IsStanding, base_of, gate_held, held_of, is_able, map_of, records_held, rest_of}

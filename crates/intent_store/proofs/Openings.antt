@@ -1,12 +1,11 @@
 -- How an intent is spelled and opened.
-use Rattle.std.proofs.Common.{◌≡◌, ℕ, zero, suc, ◌+◌, ◌-◌, ◌*◌, ◌<◌, ◌≤◌, Bool, true, false, if◌then◌else◌, List, [], ◌∷◌, ◌++◌, length, take, slice_index, Option, Some, None, refl, sym, ap, subst, ◌∙◌, arith, inl, inr, All}
-use Rattle.std.proofs.lemmas.Bool.{cases_Bool}
+use Rattle.std.proofs.Common.{◌≡◌, ℕ, suc, ◌+◌, ◌-◌, ◌<◌, ◌≤◌, false, List, [], ◌∷◌, length, take, slice_index, Option, refl, ap, arith, All}
 use Rattle.std.proofs.lemmas.Bool.Decides.{nat_tests}
 use Rattle.std.proofs.lemmas.Grind.{common_steps}
 use Rattle.ow_base.specs.Seals.{seal_from}
 use Rattle.ow_base.specs.Words.{updated}
-use Rattle.record_layouts.specs.Overlay.{Area, IsAllowed, IsOpenIntent, WordRange, gate_word, intent_kind, intent_seal, laid, lies_in, open_ranges, or_none, overlay, payload_of, payload_word, seal_word, words_from}
-use Rattle.record_layouts.proofs.Intents.{open_ranges_of, words_from-same}
+use Rattle.record_layouts.specs.Overlay.{Area, IsAllowed, IsOpenIntent, WordRange, gate_word, intent_kind, intent_seal, laid, or_none, overlay, payload_of, payload_word, seal_word, words_from}
+use Rattle.record_layouts.proofs.Intents.{open_ranges_of}
 use Rattle.intent_store.specs.Blocks.{IsShutLike, is_of_block, opened, seal_of_payload, with_words_at}
 
 -- a word is added behind those that stand in an area

@@ -1,5 +1,5 @@
 -- Payloads that grow by a range.
-use Rattle.std.proofs.Common.{◌≡◌, ℕ, suc, ◌+◌, ◌*◌, ◌<◌, ◌≤◌, true, List, [], ◌∷◌, ◌++◌, length, take, slice_index, refl, sym, ap, subst, ◌∙◌, arith, append_assoc, length-append, All}
+use Rattle.std.proofs.Common.{◌≡◌, ℕ, ◌+◌, ◌*◌, ◌<◌, ◌≤◌, true, List, [], ◌∷◌, ◌++◌, length, refl, sym, ap, ◌∙◌, arith, append_assoc, length-append, All}
 use Rattle.std.proofs.lemmas.Grind.{common_steps}
 use Rattle.std.proofs.lemmas.List.Elements.{All-cons, All-nil}
 use Rattle.record_layouts.specs.declared.patch.AnyRec.{AnyRec}
@@ -7,9 +7,9 @@ use Rattle.record_layouts.specs.declared.patch.AnyRec.TheVariants as any
 use Rattle.record_layouts.specs.declared.patch.PatchItem.{PatchItem}
 use Rattle.record_layouts.specs.declared.places.RecordId.{RecordId}
 use Rattle.record_layouts.specs.declared.places.RecordId.TheVariants as id
-use Rattle.record_layouts.specs.Overlay.{IsAllowed, WordRange, begin_of, end_of, may_change, payload_of}
+use Rattle.record_layouts.specs.Overlay.{IsAllowed, WordRange, may_change, payload_of}
 use Rattle.record_layouts.specs.Patch.{IsOfKind, IsPatchItem}
-use Rattle.record_layouts.specs.Places.{IsRecordId, first_word, length_of}
+use Rattle.record_layouts.specs.Places.{first_word, length_of}
 use Rattle.record_layouts.specs.Seam.{AreSpelled, IsSpelled, Spells}
 use Rattle.intent_store.specs.Payloads.{IsPayload, SpellsMore}
 

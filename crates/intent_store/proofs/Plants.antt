@@ -1,8 +1,7 @@
 -- Stores of a plant, as the kernel that runs on it sees them.
-use Rattle.std.proofs.Common.{◌≡◌, ℕ, ◌+◌, ◌<◌, ◌≤◌, Bool, true, false, List, length, slice_set, replicate, Some, is_some, refl, sym, ap, subst, ◌∙◌, arith, length-set}
+use Rattle.std.proofs.Common.{◌≡◌, ℕ, ◌<◌, true, false, List, length, slice_set, replicate, is_some, sym, ap, ◌∙◌, arith, length-set}
 use Rattle.std.proofs.lemmas.Bool.Decides.{nat_tests}
 use Rattle.std.proofs.lemmas.List.{length-replicate}
-use Rattle.ow_base.specs.Sv32.{WordMap}
 use Rattle.ow_plant.specs.State.{IsArmed, PlantState, with_stored}
 use Rattle.phys_memory.specs.Memory.{IsSized, MemoryParts, frame_count, with_word, words_of}
 use Rattle.phys_memory.proofs.Words.{words_of-set}

@@ -1,14 +1,11 @@
 -- What is read of an area that changes in its block.
-use Rattle.std.proofs.Common.{◌≡◌, ℕ, zero, suc, ◌+◌, ◌-◌, ◌*◌, ◌<◌, ◌≤◌, Bool, true, false, nat_lt, ◌&&◌, if◌then◌else◌, List, [], ◌∷◌, length, Option, Some, None, refl, sym, ap, subst, ◌∙◌, arith, inl, inr, ◌⊎◌, All}
-use Rattle.std.proofs.lemmas.Bool.{cases_Bool}
+use Rattle.std.proofs.Common.{◌≡◌, ℕ, ◌<◌, ◌≤◌, Bool, true, false, List, [], ◌∷◌, length, Option, None, refl, sym, ap, ◌∙◌, arith}
 use Rattle.std.proofs.lemmas.Bool.Decides.{nat_tests}
-use Rattle.ow_base.specs.Words.{updated}
-use Rattle.record_layouts.specs.declared.intent.Gate.{Gate}
-use Rattle.record_layouts.specs.declared.intent.Gate.TheVariants.{Closed, Open, Broken}
+use Rattle.record_layouts.specs.declared.intent.Gate.TheVariants.{Open}
 use Rattle.record_layouts.specs.declared.memory_map.MemoryMap.{MemoryMap}
 use Rattle.record_layouts.specs.declared.patch.PatchItem.{PatchItem}
 use Rattle.record_layouts.specs.Held.{Records, with_items}
-use Rattle.record_layouts.specs.Overlay.{Area, IsAllowed, WordRange, gate_of, gate_word, laid, open_ranges, or_none, overlay, payload_of, words_from}
+use Rattle.record_layouts.specs.Overlay.{Area, WordRange, gate_of, gate_word, laid, open_ranges, or_none, overlay, payload_of}
 use Rattle.record_layouts.specs.Patch.{IsPatch}
 use Rattle.record_layouts.specs.Reading.{is_readable_gate, records_in}
 use Rattle.record_layouts.specs.Seam.{AreSpelled}

@@ -1,7 +1,7 @@
 -- Words of a frame that are stored one by one.
-use Rattle.std.proofs.Common.{◌≡◌, ℕ, ◌+◌, ◌<◌, ◌≤◌, Bool, true, false, Some, is_some, refl, sym, ap, ◌∙◌, arith}
+use Rattle.std.proofs.Common.{◌≡◌, ℕ, ◌+◌, ◌<◌, true, is_some, arith}
 use Rattle.std.proofs.lemmas.Bool.Decides.{nat_tests}
-use Rattle.ow_base.specs.Sv32.{WordMap, word_or_zero}
+use Rattle.ow_base.specs.Sv32.{WordMap}
 use Rattle.intent_store.specs.Stores.{with_first, with_frame, with_word_at}
 
 module _ (words : WordMap) (frame : ℕ) (value : ℕ → ℕ) where

@@ -1,12 +1,12 @@
 -- What becomes of an area while an intent in its block is opened, carried out and closed.
-use Rattle.std.specs.Prelude.{◌≡◌, ℕ, ◌+◌, ◌-◌, ◌≤◌, Bool, true, false, nat_lt, ◌==◌, if◌then◌else◌, List, ◌∷◌, length, slice_index}
+use Rattle.std.specs.Prelude.{◌≡◌, ℕ, ◌+◌, ◌-◌, ◌≤◌, Bool, false, if◌then◌else◌, List, ◌∷◌, length, slice_index}
 use Rattle.ow_base.specs.Seals.{seal_from}
 use Rattle.ow_base.specs.Words.{updated}
 use Rattle.record_layouts.specs.declared.intent.Change.{Change}
 use Rattle.record_layouts.specs.declared.memory_map.MemoryMap.{MemoryMap}
 use Rattle.record_layouts.specs.declared.patch.PatchItem.{PatchItem}
 use Rattle.record_layouts.specs.Held.{Records, with_items}
-use Rattle.record_layouts.specs.Overlay.{Area, gate_of, gate_word, payload_word, seal_word, intent_kind, lies_in, overlay, open_ranges}
+use Rattle.record_layouts.specs.Overlay.{Area, gate_of, gate_word, payload_word, seal_word, intent_kind, lies_in, overlay}
 use Rattle.record_layouts.specs.Reading.{is_readable_gate, records_in}
 
 -- the words of the intent block

@@ -34,9 +34,9 @@ pub(crate) fn copy_frame<W: WordStore>(store: &mut W, from: u32, to: u32) -> Res
     ensures cause { OnErr result (W.able store.new ≡ false) }
     ensures place { W.place store.new ≡ W.place store.old }
 {
-    for word in 0..FRAME {
-        let value = word_at(store, from, word);
-        store.store(to, word, value)?;
+    for place in 0..FRAME {
+        let value = word_at(store, from, place);
+        store.store(to, place, value)?;
     }
     Ok(())
 }

@@ -1,6 +1,5 @@
-use Rattle.std.proofs.Common.{◌≡◌, ◌<◌, ◌≤◌, ℕ, List, length, arith, sym, subst, inl, inr}
+use Rattle.std.proofs.Common.{◌≡◌, ◌<◌, ℕ, List, length, arith, sym, subst, inl, inr}
 use Rattle.std.proofs.lemmas.Bool.Decides.{nat_tests}
-use Rattle.record_layouts.specs.Overlay.{Area, area_at}
 use Rattle.intent_store.specs.Payloads.{IsPayload}
 use Rattle.intent_store.proofs.Outcomes.{on_ok, on_err, at_err}
 use Rattle.intent_store.proofs.Reading.{readable-opened, rolled-gate, seen-reads, seen-rolled, seen-shut, seen-then, set-before, set-none, set-opened}

@@ -1,4 +1,4 @@
-use Rattle.std.proofs.Common.{◌+◌, ◌-◌, ◌<◌, ◌≤◌, ◌∙◌, ap, refl, arith, ℕ}
+use Rattle.std.proofs.Common.{◌+◌, ◌-◌, ◌<◌, ◌≤◌, ◌∙◌, ap, refl, arith}
 use Rattle.ow_base.specs.Words.{updated}
 use Rattle.record_layouts.specs.Overlay.{Area, area_at}
 use Rattle.intent_store.proofs.Changes.{partly-none, partly-more}

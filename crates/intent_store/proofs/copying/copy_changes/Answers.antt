@@ -1,5 +1,4 @@
-use Rattle.std.proofs.Common.{◌≡◌, ◌∙◌, refl}
-use Rattle.record_layouts.specs.Overlay.{Area, area_at}
+use Rattle.std.proofs.Common.{◌∙◌, refl}
 use Rattle.intent_store.proofs.Changes.{copying-first, copying-over, copying-next, partly-reads}
 use Rattle.intent_store.proofs.copying.copy_changes.Goals as goal
 

@@ -4,11 +4,11 @@ use Rattle.intent_store.specs.Stores.{with_first}
 use Rattle.intent_store.proofs.frames.copy_frame.Given as goal
 
 -- the words before this one are copied
-abbrev pub invariant-loop-word : goal.invariant-loop-word
-invariant-loop-word g l =
+abbrev pub invariant-loop-place : goal.invariant-loop-place
+invariant-loop-place g l =
     let words = g.W.WordSource.words in
     record {
-      stored : words l.store ≡ with_first (words l.fn.store) l.to l.word (λ w. word_or_zero (words l.fn.store l.from w));
+      stored : words l.store ≡ with_first (words l.fn.store) l.to l.place (λ w. word_or_zero (words l.fn.store l.from w));
       same_rest : g.W.WordStore.rest l.store ≡ g.W.WordStore.rest l.fn.store;
       able : g.W.WordStore.able l.store ≡ true;
       same_place : g.W.WordStore.place l.store ≡ g.W.WordStore.place l.fn.store;

@@ -1,6 +1,6 @@
-use Rattle.std.proofs.Common.{◌<◌, ◌≡◌, ◌∙◌, ℕ, ap, refl, arith, is_some, true, sym, subst}
-use Rattle.ow_base.specs.Sv32.{WordMap, word_or_zero}
-use Rattle.intent_store.specs.Stores.{with_first, with_word_at}
+use Rattle.std.proofs.Common.{◌<◌, ◌≡◌, ◌∙◌, ap, refl, arith, is_some, true, sym, subst}
+use Rattle.ow_base.specs.Sv32.{WordMap}
+use Rattle.intent_store.specs.Stores.{with_word_at}
 use Rattle.intent_store.proofs.Words.{first-none, first-more, first-there}
 use Rattle.intent_store.proofs.frames.zero_frame.Goals as goal
 

@@ -2,7 +2,7 @@ use Rattle.std.proofs.Common.{◌≡◌, ◌∙◌, ap, subst, sym, arith, ℕ, 
 use Rattle.ow_base.specs.Seals.{seal_from}
 use Rattle.ow_base.specs.Words.{updated}
 use Rattle.record_layouts.specs.Overlay.{Area, area_at}
-use Rattle.intent_store.specs.Blocks.{IsShutLike, opened, seal_of_payload, with_words_at}
+use Rattle.intent_store.specs.Blocks.{IsShutLike, seal_of_payload, with_words_at}
 use Rattle.intent_store.proofs.Outcomes.{on_ok, on_err}
 use Rattle.intent_store.proofs.Openings.{seal_from-gate, shut-more}
 use Rattle.intent_store.proofs.opening.open.Goals as goal

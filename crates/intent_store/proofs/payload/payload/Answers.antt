@@ -1,7 +1,7 @@
-use Rattle.std.proofs.Common.{◌≡◌, ◌<◌, ◌≤◌, ◌+◌, ◌*◌, ◌∙◌, ℕ, List, [], ◌∷◌, ◌++◌, sym, subst, take, length, get_or, arith, length-take, ap, refl}
-use Rattle.std.proofs.lemmas.List.{take_more, take_all}
+use Rattle.std.proofs.Common.{◌≡◌, ◌<◌, ◌≤◌, ◌+◌, ◌∙◌, [], ◌∷◌, ◌++◌, sym, subst, take, length, arith, length-take, ap}
+use Rattle.std.proofs.lemmas.List.{take_more}
 use Rattle.record_layouts.specs.declared.patch.PatchItem.{PatchItem}
-use Rattle.intent_store.specs.Payloads.{IsPayload, SpellsMore}
+use Rattle.intent_store.specs.Payloads.{IsPayload}
 use Rattle.intent_store.proofs.Payloads.{payload-more, payload-none}
 use Rattle.intent_store.proofs.payload.payload.Goals as goal
 

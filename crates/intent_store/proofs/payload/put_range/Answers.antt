@@ -1,5 +1,4 @@
-use Rattle.std.proofs.Common.{◌≡◌, ℕ, List, [], ◌∷◌, ◌++◌, ◌∙◌, ap}
-use Rattle.record_layouts.specs.Overlay.{payload_of}
+use Rattle.std.proofs.Common.{◌≡◌, [], ◌∷◌, ◌++◌, ◌∙◌, ap}
 use Rattle.intent_store.proofs.Payloads.{sets_item, range_words}
 use Rattle.intent_store.proofs.payload.put_range.Goals as goal
 

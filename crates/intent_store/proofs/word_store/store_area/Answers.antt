@@ -1,4 +1,4 @@
-use Rattle.std.proofs.Common.{◌+◌, ◌*◌, ◌/◌, ◌%◌, ap, subst, sym, ◌∙◌}
+use Rattle.std.proofs.Common.{ap, subst, sym, ◌∙◌}
 use Rattle.ow_base.specs.Sv32.{WordMap}
 use Rattle.record_layouts.specs.Held.{beside}
 use Rattle.record_layouts.specs.Overlay.{HasArea, area_at}

@@ -1,4 +1,4 @@
-use Rattle.std.proofs.Common.{◌<◌, ◌≡◌, ◌∙◌, ap}
+use Rattle.std.proofs.Common.{◌<◌, ◌∙◌, ap}
 use Rattle.ow_plant.specs.State.{PlantState}
 use Rattle.phys_memory.specs.Memory.{frame_count, words_of}
 use Rattle.intent_store.specs.Live.{rest_of}

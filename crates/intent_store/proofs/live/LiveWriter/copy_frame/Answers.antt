@@ -1,10 +1,9 @@
-use Rattle.std.proofs.Common.{◌≡◌, ◌<◌, ◌∙◌, ℕ, nat_lt, ap}
+use Rattle.std.proofs.Common.{◌∙◌, ℕ, nat_lt, ap}
 use Rattle.ow_base.specs.Sv32.{word_or_zero}
 use Rattle.phys_memory.specs.Memory.{words_of}
-use Rattle.record_layouts.specs.Held.{beside, with_words}
+use Rattle.record_layouts.specs.Held.{with_words}
 use Rattle.intent_store.specs.Live.{held_of, map_of}
 use Rattle.record_layouts.specs.Reading.{records_in, records_of}
-use Rattle.intent_store.specs.Stores.{IsBegun, with_first}
 use Rattle.intent_store.proofs.Outcomes.{on_ok, on_err, either_way}
 use Rattle.intent_store.proofs.Direct.{beside_is, held_stored, standing_stored}
 use Rattle.intent_store.proofs.live.LiveWriter.copy_frame.Goals as goal
