@@ -21,6 +21,8 @@ use Rattle.record_layouts.specs.Sound.{IsIn, AreSound}
 use Rattle.process_table.specs.Patches.{bank_of, head_item, process_item}
 use Rattle.process_table.proofs.Kept.{set_here, set_other, same_or_not}
 use Rattle.process_table.proofs.Regions.{SameRegions, mapped_same}
+use Rattle.process_table.proofs.EndedUnix.{IsOf, live_not_ended, others_are}
+use Rattle.process_table.proofs.ChangedUnix.{in_use_still}
 use Rattle.process_table.proofs.Seats.{Living, Missing, found_in, living, not_found, pid_here, pid_range, this_number}
 use Rattle.syscalls.proofs.Altered.{altered, decoded_stays, mapped_stays, pid_stays}
 
@@ -31,11 +33,6 @@ pub record IsAfter (process after : ProcRec) : Type 0 where
   pub status : after.status ≡ process.status
   pub descs : after.descs ≡ process.descs
   pub regions : SameRegions after process
-
--- the processor is in the kernel, or in the process with this pid
-abbrev pub IsOf : Context → (pid : ℕ) → Type 0
-IsOf InKernel pid = Unit {0}
-IsOf (InUser user count bank) pid = user ≡ pid
 
 -- the bank that a process has
 abbrev pub bank_by : Context → ProcRec → Bank
@@ -64,43 +61,12 @@ caller_decodes r words (InUser user count bank) slot process sound is of =
     let same : (process.pid == user) ≡ true = grind (arith, nat_tests, of) in
     rw same (ap (with_bank bank) (found_in r words slot process sound is))
 
-others_are : (r : Records) (words : WordMap) (context : Context) (pid q : ℕ) → IsOf context pid → (q ≡ pid → ⊥) → processes_of r words context q ≡ process_at r words q
-unfolding processes_of
-others_are r words InKernel pid q of apart = refl
-others_are r words (InUser user count bank) pid q of apart = elim (cases_Bool (q == user)) [
-    inl same ↦ let equal : q ≡ user = grind (arith, nat_tests) in absurd (apart (equal ∙ of))
-  | inr other ↦ rw other refl ]
-
--- descriptors that name the same
-named_same : (ps : ℕ → Option Process) (pid : ℕ) (old new : Process) (number q : ℕ) → ps pid ≡ Some old → new.descriptors ≡ old.descriptors
-    → is_named_by number (updated ps pid (Some new) q) ≡ is_named_by number (ps q)
-named_same ps pid old new number q there same = elim (same_or_not q pid) [
-    inl equal ↦ subst (λ (k : ℕ). is_named_by number (updated ps pid (Some new) k) ≡ is_named_by number (ps k)) (sym equal)
-        (ap (is_named_by number) (set_here ps pid (Some new)) ∙ (rw same refl ∙ sym (ap (is_named_by number) there)))
-  | inr apart ↦ ap (is_named_by number) (set_other ps pid (Some new) q apart) ]
-
-all_named_same : (ps : ℕ → Option Process) (pid : ℕ) (old new : Process) (number first count : ℕ) → ps pid ≡ Some old → new.descriptors ≡ old.descriptors
-    → is_named (updated ps pid (Some new)) number first count ≡ is_named ps number first count
-unfolding is_named
-all_named_same ps pid old new number first zero there same = refl
-all_named_same ps pid old new number first (suc count) there same =
-    rw (named_same ps pid old new number first there same) (ap (λ (rest : Bool). is_named_by number (ps first) || rest) (all_named_same ps pid old new number (first + 1) count there same))
-
-in_use_same : (ps : ℕ → Option Process) (pid : ℕ) (old new : Process) (ds : ℕ → Option Description) (number : ℕ) → ps pid ≡ Some old → new.descriptors ≡ old.descriptors
-    → in_use (updated ps pid (Some new)) ds number ≡ in_use ps ds number
-unfolding in_use
-in_use_same ps pid old new ds number there same = rw (all_named_same ps pid old new number 1 256 there same) refl
-
 -- who is live stays so
 live_same : (ps : ℕ → Option Process) (pid : ℕ) (old new : Process) (q : ℕ) → ps pid ≡ Some old → is_some (updated ps pid (Some new) q) ≡ is_some (ps q)
 live_same ps pid old new q there = elim (same_or_not q pid) [
     inl equal ↦ subst (λ (k : ℕ). is_some (updated ps pid (Some new) k) ≡ is_some (ps k)) (sym equal)
         (ap is_some (set_here ps pid (Some new)) ∙ sym (ap is_some there))
   | inr apart ↦ ap is_some (set_other ps pid (Some new) q apart) ]
-
--- a live process has not ended
-not_ended : (q : ℕ) (process : ProcRec) → is_live process ≡ true → is_ended_as q (Some process) ≡ false
-not_ended q process live = grind (arith, nat_tests, live)
 
 -- whose child a process was when it ended
 child_of_it : (new old : ProcRec) (ps : ℕ → Option Process) (pid : ℕ) (was is : Process) → ps pid ≡ Some was → new.parent ≡ old.parent → new.status ≡ old.status
@@ -186,13 +152,13 @@ module _ (r : Records) (head : HeadRec) (slot : ℕ) (process after : ProcRec) (
   same_descriptors = rw next.descs refl
 
   described_then : (number : ℕ) → in_use (updated before process.pid (Some then_is)) (λ n. description_by (r.descs n)) number ≡ in_use before (λ n. description_by (r.descs n)) number
-  described_then number = in_use_same before process.pid caller then_is (λ n. description_by (r.descs n)) number caller_there same_descriptors
+  described_then number = in_use_still before process.pid caller then_is (λ n. description_by (r.descs n)) number caller_there same_descriptors
 
   -- ended children
   test_then : (q place : ℕ) → is_ended_as q (updated r.procs slot (Some after) place) ≡ is_ended_as q (r.procs place)
   test_then q place = elim (same_or_not place slot) [
       inl equal ↦ subst (λ (k : ℕ). is_ended_as q (updated r.procs slot (Some after) k) ≡ is_ended_as q (r.procs k)) (sym equal)
-          (ap (is_ended_as q) (set_here r.procs slot (Some after)) ∙ (not_ended q after next.regions.live ∙ sym (ap (is_ended_as q) is.there ∙ not_ended q process is.live)))
+          (ap (is_ended_as q) (set_here r.procs slot (Some after)) ∙ (live_not_ended after q next.regions.live ∙ sym (ap (is_ended_as q) is.there ∙ live_not_ended process q is.live)))
     | inr apart ↦ ap (is_ended_as q) (set_other r.procs slot (Some after) place apart) ]
 
   child_then : (place : ℕ) → ended_by (updated before process.pid (Some then_is)) (updated r.procs slot (Some after) place) ≡ ended_by before (r.procs place)
