@@ -7,3 +7,4 @@ pub mod Becoming
 pub mod Written
 pub mod Described
 pub mod Served
+pub mod Exported
