@@ -64,9 +64,10 @@ caller_decodes r words (InUser user count bank) slot process sound is of =
 -- who is live stays so
 live_same : (ps : ℕ → Option Process) (pid : ℕ) (old new : Process) (q : ℕ) → ps pid ≡ Some old → is_some (updated ps pid (Some new) q) ≡ is_some (ps q)
 live_same ps pid old new q there = elim (same_or_not q pid) [
-    inl equal ↦ subst (λ (k : ℕ). is_some (updated ps pid (Some new) k) ≡ is_some (ps k)) (sym equal)
-        (ap is_some (set_here ps pid (Some new)) ∙ sym (ap is_some there))
-  | inr apart ↦ ap is_some (set_other ps pid (Some new) q apart) ]
+  | inl equal ↦ subst (λ (k : ℕ). is_some (updated ps pid (Some new) k) ≡ is_some (ps k)) (sym equal)
+      (ap is_some (set_here ps pid (Some new)) ∙ sym (ap is_some there))
+  | inr apart ↦ ap is_some (set_other ps pid (Some new) q apart)
+]
 
 -- whose child a process was when it ended
 child_of_it : (new old : ProcRec) (ps : ℕ → Option Process) (pid : ℕ) (was is : Process) → ps pid ≡ Some was → new.parent ≡ old.parent → new.status ≡ old.status
@@ -83,7 +84,6 @@ becoming r head slot pid after terms rows trap = altered r (Some (record head { 
 
 module _ (r : Records) (head : HeadRec) (slot : ℕ) (process after : ProcRec) (terms : ℕ → Option TermRec) (rows : ℕ → Option RowRec) (trap : ℕ)
     (words : WordMap) (context : Context) (sound : AreSound r) (is_head : r.head ≡ Some head) (is : IsIn r slot process) (of : IsOf context process.pid) (next : IsAfter process after) where
-
   abbrev become : Records
   become = becoming r head slot process.pid after terms rows trap
 
@@ -101,39 +101,41 @@ module _ (r : Records) (head : HeadRec) (slot : ℕ) (process after : ProcRec) (
   here =
       let exit : slot_by (r.exits after.pid) ≡ Some slot = ap (λ (p : ℕ). slot_by (r.exits p)) next.pid ∙ sound.numbered.exit slot process is in
       let seat : pid_in become slot ≡ Some after.pid =
-          pid_stays r (Some (record head { served = trap; last = process.pid })) (updated r.procs slot (Some after)) terms rows slot
-          ∙ (pid_here r slot process sound.values sound.numbered is ∙ ap (λ (p : ℕ). Some p) (sym next.pid)) in
+      pid_stays r (Some (record head { served = trap; last = process.pid })) (updated r.procs slot (Some after)) terms rows slot
+      ∙ (pid_here r slot process sound.values sound.numbered is ∙ ap (λ (p : ℕ). Some p) (sym next.pid)) in
       let mapped : is_mapped become slot after ≡ true = stays_mapped slot after (mapped_same r slot after process next.regions ∙ sound.mapped.mapped slot process is) in
       let decoded : process_at become words after.pid ≡ Some (process_of become words slot after) =
-          decoded_at become words slot after exit seat (set_here r.procs slot (Some after)) (decodes_by become slot after refl next.regions.live mapped) in
+      decoded_at become words slot after exit seat (set_here r.procs slot (Some after)) (decodes_by become slot after refl next.regions.live mapped) in
       subst (λ (p : ℕ). process_at become words p ≡ Some (process_of become words slot after)) next.pid decoded
       ∙ ap (λ (p : Process). Some p) (decoded_stays r (Some (record head { served = trap; last = process.pid })) (updated r.procs slot (Some after)) terms rows words slot after)
 
   there_too : (q : ℕ) → (live : Living r words q) → (q ≡ process.pid → ⊥) → process_at become words q ≡ process_at r words q
   there_too q live apart =
       let places : live.slot ≡ slot → ⊥ = λ same.
-          apart (sound.numbered.one_slot q process.pid slot (subst (λ (k : ℕ). slot_by (r.exits q) ≡ Some k) same live.exit) (sound.numbered.exit slot process is)) in
+      apart (sound.numbered.one_slot q process.pid slot (subst (λ (k : ℕ). slot_by (r.exits q) ≡ Some k) same live.exit) (sound.numbered.exit slot process is)) in
       let exit : slot_by (r.exits live.process.pid) ≡ Some live.slot = ap (λ (p : ℕ). slot_by (r.exits p)) live.same ∙ live.exit in
       let seat : pid_in become live.slot ≡ Some live.process.pid =
-          pid_stays r (Some (record head { served = trap; last = process.pid })) (updated r.procs slot (Some after)) terms rows live.slot
-          ∙ pid_here r live.slot live.process sound.values sound.numbered live.is in
+      pid_stays r (Some (record head { served = trap; last = process.pid })) (updated r.procs slot (Some after)) terms rows live.slot
+      ∙ pid_here r live.slot live.process sound.values sound.numbered live.is in
       let there : updated r.procs slot (Some after) live.slot ≡ Some live.process = set_other r.procs slot (Some after) live.slot places ∙ live.is.there in
       let decoded : process_at become words live.process.pid ≡ Some (process_of become words live.slot live.process) =
-          decoded_at become words live.slot live.process exit seat there
-          (decodes_by become live.slot live.process refl live.is.live (stays_mapped live.slot live.process (sound.mapped.mapped live.slot live.process live.is))) in
+      decoded_at become words live.slot live.process exit seat there
+      (decodes_by become live.slot live.process refl live.is.live (stays_mapped live.slot live.process (sound.mapped.mapped live.slot live.process live.is))) in
       subst (λ (p : ℕ). process_at become words p ≡ Some (process_of become words live.slot live.process)) live.same decoded
       ∙ (ap (λ (p : Process). Some p) (decoded_stays r (Some (record head { served = trap; last = process.pid })) (updated r.procs slot (Some after)) terms rows words live.slot live.process)
       ∙ sym live.decoded)
 
   others_stay : (q : ℕ) → (q ≡ process.pid → ⊥) → process_at become words q ≡ process_at r words q
   others_stay q apart = elim (living r words q sound) [
-      inl missing ↦ not_found become words q missing.exit ∙ sym missing.decoded
-    | inr live ↦ there_too q live apart ]
+    | inl missing ↦ not_found become words q missing.exit ∙ sym missing.decoded
+    | inr live ↦ there_too q live apart
+  ]
 
   processes_then : (q : ℕ) → process_at become words q ≡ updated before process.pid (Some then_is) q
   processes_then q = elim (same_or_not q process.pid) [
-      inl equal ↦ subst (λ (k : ℕ). process_at become words k ≡ updated before process.pid (Some then_is) k) (sym equal) (here ∙ sym (set_here before process.pid (Some then_is)))
-    | inr apart ↦ others_stay q apart ∙ (sym (others_are r words context process.pid q of apart) ∙ sym (set_other before process.pid (Some then_is) q apart)) ]
+    | inl equal ↦ subst (λ (k : ℕ). process_at become words k ≡ updated before process.pid (Some then_is) k) (sym equal) (here ∙ sym (set_here before process.pid (Some then_is)))
+    | inr apart ↦ others_stay q apart ∙ (sym (others_are r words context process.pid q of apart) ∙ sym (set_other before process.pid (Some then_is) q apart))
+  ]
 
   processes_are : processes_of become words InKernel ≡ updated before process.pid (Some then_is)
   unfolding processes_of
@@ -157,17 +159,19 @@ module _ (r : Records) (head : HeadRec) (slot : ℕ) (process after : ProcRec) (
   -- ended children
   test_then : (q place : ℕ) → is_ended_as q (updated r.procs slot (Some after) place) ≡ is_ended_as q (r.procs place)
   test_then q place = elim (same_or_not place slot) [
-      inl equal ↦ subst (λ (k : ℕ). is_ended_as q (updated r.procs slot (Some after) k) ≡ is_ended_as q (r.procs k)) (sym equal)
-          (ap (is_ended_as q) (set_here r.procs slot (Some after)) ∙ (live_not_ended after q next.regions.live ∙ sym (ap (is_ended_as q) is.there ∙ live_not_ended process q is.live)))
-    | inr apart ↦ ap (is_ended_as q) (set_other r.procs slot (Some after) place apart) ]
+    | inl equal ↦ subst (λ (k : ℕ). is_ended_as q (updated r.procs slot (Some after) k) ≡ is_ended_as q (r.procs k)) (sym equal)
+        (ap (is_ended_as q) (set_here r.procs slot (Some after)) ∙ (live_not_ended after q next.regions.live ∙ sym (ap (is_ended_as q) is.there ∙ live_not_ended process q is.live)))
+    | inr apart ↦ ap (is_ended_as q) (set_other r.procs slot (Some after) place apart)
+  ]
 
   child_then : (place : ℕ) → ended_by (updated before process.pid (Some then_is)) (updated r.procs slot (Some after) place) ≡ ended_by before (r.procs place)
   child_then place = elim (same_or_not place slot) [
-      inl equal ↦ subst (λ (k : ℕ). ended_by (updated before process.pid (Some then_is)) (updated r.procs slot (Some after) k) ≡ ended_by before (r.procs k)) (sym equal)
-          (ap (ended_by (updated before process.pid (Some then_is))) (set_here r.procs slot (Some after))
-          ∙ (child_of_it after process before process.pid caller then_is caller_there next.parent next.status ∙ sym (ap (ended_by before) is.there)))
+    | inl equal ↦ subst (λ (k : ℕ). ended_by (updated before process.pid (Some then_is)) (updated r.procs slot (Some after) k) ≡ ended_by before (r.procs k)) (sym equal)
+        (ap (ended_by (updated before process.pid (Some then_is))) (set_here r.procs slot (Some after))
+        ∙ (child_of_it after process before process.pid caller then_is caller_there next.parent next.status ∙ sym (ap (ended_by before) is.there)))
     | inr apart ↦ ap (ended_by (updated before process.pid (Some then_is))) (set_other r.procs slot (Some after) place apart)
-          ∙ child_same (r.procs place) before process.pid caller then_is caller_there ]
+        ∙ child_same (r.procs place) before process.pid caller then_is caller_there
+  ]
 
   ended_in_then : (held : Option ℕ) → ended_in become (updated before process.pid (Some then_is)) held ≡ ended_in r before held
   ended_in_then (Some place) = child_then place
@@ -193,7 +197,7 @@ module _ (r : Records) (head : HeadRec) (slot : ℕ) (process after : ProcRec) (
   pub becomes : (tapes then_tapes : ℕ → List ℕ) (steps traps : ℕ)
       → unix_of (becoming r head slot process.pid after terms rows trap) words then_tapes InKernel (steps + 1) (traps + 1)
       ≡ record (with_process (trapped (unix_of r words tapes context steps traps) process.pid) process.pid (process_of r words slot after))
-          { terminals = λ tty. terminal_by (then_tapes tty) (terms tty) }
+      { terminals = λ tty. terminal_by (then_tapes tty) (terms tty) }
   unfolding unix_of trapped
   becomes tapes then_tapes steps traps = λ i. record {
     processes = processes_are i;

@@ -46,7 +46,6 @@ named_is r descriptors fd others = word_is r (slice_get descriptors fd) others
 
 module _ (r : Records) (head : HeadRec) (slot : ℕ) (process : ProcRec) (trap : ℕ) (words : WordMap) (tapes : ℕ → List ℕ) (context : Context) (steps traps : ℕ)
     (sound : AreSound r) (is_head : r.head ≡ Some head) (is : IsIn r slot process) (of : IsOf context process.pid) where
-
   -- the caller as its call finds it, and the state in which its trap begins
   abbrev saved : ProcRec
   saved = saved_process process (bank_by context process)
@@ -65,7 +64,7 @@ module _ (r : Records) (head : HeadRec) (slot : ℕ) (process : ProcRec) (trap :
   unfolding unix_of trapped
   ends_once after next =
       let pid : Ends (with_items r (items_of (caller_with slot trap head saved) after)) tapes (unix_of (becoming r head slot process.pid after r.terms r.rows trap) words tapes InKernel (steps + 1) (traps + 1)) =
-          ap (λ (p : ℕ). unix_of (becoming r head slot p after r.terms r.rows trap) words tapes InKernel (steps + 1) (traps + 1)) next.pid in
+      ap (λ (p : ℕ). unix_of (becoming r head slot p after r.terms r.rows trap) words tapes InKernel (steps + 1) (traps + 1)) next.pid in
       pid ∙ becomes r head slot process after r.terms r.rows trap words context sound is_head is of next tapes tapes steps traps
 
   ends_written : (after : ProcRec) (tty : ℕ) (bytes : List ℕ) (written : Records) (done_tapes : ℕ → List ℕ) → IsAfter process after → AreWritten r tapes tty bytes written done_tapes
@@ -74,13 +73,13 @@ module _ (r : Records) (head : HeadRec) (slot : ℕ) (process : ProcRec) (trap :
   ends_written after tty bytes written done_tapes next are =
       let items = items_of (caller_with slot trap head saved) after in
       let rest : Ends (with_items written items) done_tapes (unix_of (with_items (record r { terms = written.terms; rows = written.rows }) items) words done_tapes InKernel (steps + 1) (traps + 1)) =
-          ap (λ (x : Records). unix_of (with_items x items) words done_tapes InKernel (steps + 1) (traps + 1)) are.rest in
+      ap (λ (x : Records). unix_of (with_items x items) words done_tapes InKernel (steps + 1) (traps + 1)) are.rest in
       let pid : unix_of (with_items (record r { terms = written.terms; rows = written.rows }) items) words done_tapes InKernel (steps + 1) (traps + 1)
-          ≡ unix_of (becoming r head slot process.pid after written.terms written.rows trap) words done_tapes InKernel (steps + 1) (traps + 1) =
-          ap (λ (p : ℕ). unix_of (becoming r head slot p after written.terms written.rows trap) words done_tapes InKernel (steps + 1) (traps + 1)) next.pid in
+      ≡ unix_of (becoming r head slot process.pid after written.terms written.rows trap) words done_tapes InKernel (steps + 1) (traps + 1) =
+      ap (λ (p : ℕ). unix_of (becoming r head slot p after written.terms written.rows trap) words done_tapes InKernel (steps + 1) (traps + 1)) next.pid in
       rest ∙ (pid ∙ (becomes r head slot process after written.terms written.rows trap words context sound is_head is of next tapes done_tapes steps traps
       ∙ ap (λ (ts : ℕ → Terminal). record (with_process state process.pid (process_of r words slot after)) { terminals = ts })
-          (terminals_then r tapes tty bytes written done_tapes are)))
+      (terminals_then r tapes tty bytes written done_tapes are)))
 
   -- what the process then decodes to
   outside : (after : ProcRec) → after.state ≡ 1 → after.code_pages ≡ process.code_pages → after.data_pages ≡ process.data_pages → after.brk ≡ process.brk → SameRegions after process
@@ -138,13 +137,15 @@ module _ (r : Records) (head : HeadRec) (slot : ℕ) (process : ProcRec) (trap :
   -- a piece of a write: what is left of it is answered, or the process stays
   written_after : (count done : ℕ) → IsAfter process (written_process saved count done)
   written_after count done = elim (cases_Bool (done == count)) [
-      inl last ↦ rw last (answer_after count)
-    | inr more ↦ rw more (stay_after done) ]
+    | inl last ↦ rw last (answer_after count)
+    | inr more ↦ rw more (stay_after done)
+  ]
 
   written_is : (u : Unix) (count done : ℕ) → with_process u process.pid (process_of r words slot (written_process saved count done)) ≡ written_to u process.pid caller count done
   written_is u count done = elim (cases_Bool (done == count)) [
-      inl last ↦ rw last (answer_is u count)
-    | inr more ↦ rw more (stay_is u done) ]
+    | inl last ↦ rw last (answer_is u count)
+    | inr more ↦ rw more (stay_is u done)
+  ]
 
   served_piece : (tty from count len done : ℕ) (now : Records) (now_tapes : ℕ → List ℕ)
       → IsDone r words tapes slot process (PlanWrite tty from len (items_of (caller_with slot trap head saved) (written_process saved count done))) now now_tapes
@@ -157,9 +158,9 @@ module _ (r : Records) (head : HeadRec) (slot : ℕ) (process : ProcRec) (trap :
 
   tty_by : (test : Bool) (tty from count len done answer : ℕ) (now : Records) (now_tapes : ℕ → List ℕ)
       → IsDone r words tapes slot process
-          (if test then PlanWrite tty from len (items_of (caller_with slot trap head saved) (written_process saved count done)) else planned_answer (caller_with slot trap head saved) answer) now now_tapes
+      (if test then PlanWrite tty from len (items_of (caller_with slot trap head saved) (written_process saved count done)) else planned_answer (caller_with slot trap head saved) answer) now now_tapes
       → Ends now now_tapes
-          (if test then written_to (written_on state tty (bytes_at (pages_of r words slot process) from len)) process.pid caller count done else answered state process.pid caller answer)
+      (if test then written_to (written_on state tty (bytes_at (pages_of r words slot process) from len)) process.pid caller count done else answered state process.pid caller answer)
   tty_by true tty from count len done answer now now_tapes served = served_piece tty from count len done now now_tapes served
   tty_by false tty from count len done answer now now_tapes served = served_answer answer now now_tapes served
 
@@ -189,12 +190,15 @@ module _ (r : Records) (head : HeadRec) (slot : ℕ) (process : ProcRec) (trap :
   unfolding planned_write_on
   write_by None now now_tapes other served = served_answer (minus 9) now now_tapes served
   write_by (Some d) now now_tapes other served = elim (cases_Bool (is_written d)) [
-      inl writes ↦ elim (cases_Bool (nat_lt 0x7fffffff (argument_of saved 2))) [
-          inl many ↦ rw (writes, many) (served_answer (minus 22) now now_tapes (rw (writes, many) at served))
-        | inr few ↦ elim (cases_Bool (argument_of saved 2 == 0)) [
-            inl none ↦ rw (writes, few, none) (served_answer 0 now now_tapes (rw (writes, few, none) at served))
-          | inr some ↦ rw (writes, few, some) (served_on d 0 now now_tapes other (rw (writes, few, some) at served)) ] ]
-    | inr reads ↦ rw reads (served_answer (minus 9) now now_tapes (rw reads at served)) ]
+    | inl writes ↦ elim (cases_Bool (nat_lt 0x7fffffff (argument_of saved 2))) [
+      | inl many ↦ rw (writes, many) (served_answer (minus 22) now now_tapes (rw (writes, many) at served))
+      | inr few ↦ elim (cases_Bool (argument_of saved 2 == 0)) [
+        | inl none ↦ rw (writes, few, none) (served_answer 0 now now_tapes (rw (writes, few, none) at served))
+        | inr some ↦ rw (writes, few, some) (served_on d 0 now now_tapes other (rw (writes, few, some) at served))
+      ]
+    ]
+    | inr reads ↦ rw reads (served_answer (minus 9) now now_tapes (rw reads at served))
+  ]
 
   -- what a descriptor of the caller names
   caller_there : processes_of r words context process.pid ≡ Some caller
@@ -222,16 +226,20 @@ module _ (r : Records) (head : HeadRec) (slot : ℕ) (process : ProcRec) (trap :
       → Ends now now_tapes (called state process.pid caller number)
   unfolding planned_number planned_write called write_entry getpid_entry
   served_number number now now_tapes others served = elim (cases_Bool (number == 1)) [
-      inl exits ↦ rw exits (served_exit now now_tapes (rw exits at served))
+    | inl exits ↦ rw exits (served_exit now now_tapes (rw exits at served))
     | inr no_exit ↦ elim (cases_Bool (number == 2)) [
-      inl writes ↦ rw (no_exit, writes)
+      | inl writes ↦ rw (no_exit, writes)
           (write_by (named r process.descs (argument_of saved 0)) now now_tapes (named_is r process.descs (argument_of saved 0) others) (rw (no_exit, writes) at served)
           ∙ sym (ap (write_through state process.pid caller) (names (argument_of saved 0))))
-    | inr no_write ↦ elim (cases_Bool (number == 7)) [
-      inl asks ↦ rw (no_exit, no_write, asks) (served_answer process.pid now now_tapes (rw (no_exit, no_write, asks) at served))
-    | inr no_pid ↦ elim (cases_Bool (number == 18)) [
-      inl yields ↦ rw (no_exit, no_write, no_pid, yields) (served_yield now now_tapes (rw (no_exit, no_write, no_pid, yields) at served))
-    | inr none ↦ rw (no_exit, no_write, no_pid, none) (served_answer (minus 38) now now_tapes (rw (no_exit, no_write, no_pid, none) at served)) ] ] ] ]
+      | inr no_write ↦ elim (cases_Bool (number == 7)) [
+        | inl asks ↦ rw (no_exit, no_write, asks) (served_answer process.pid now now_tapes (rw (no_exit, no_write, asks) at served))
+        | inr no_pid ↦ elim (cases_Bool (number == 18)) [
+          | inl yields ↦ rw (no_exit, no_write, no_pid, yields) (served_yield now now_tapes (rw (no_exit, no_write, no_pid, yields) at served))
+          | inr none ↦ rw (no_exit, no_write, no_pid, none) (served_answer (minus 38) now now_tapes (rw (no_exit, no_write, no_pid, none) at served))
+        ]
+      ]
+    ]
+  ]
 
   -- the call that it makes
   pub served_call : (now : Records) (now_tapes : ℕ → List ℕ) → AreOnTerminals r
@@ -243,7 +251,6 @@ module _ (r : Records) (head : HeadRec) (slot : ℕ) (process : ProcRec) (trap :
 -- a further piece of the write that a process is in
 module _ (r : Records) (head : HeadRec) (slot : ℕ) (process : ProcRec) (trap : ℕ) (words : WordMap) (tapes : ℕ → List ℕ) (steps traps : ℕ)
     (sound : AreSound r) (is_head : r.head ≡ Some head) (is : IsIn r slot process) where
-
   abbrev in_kernel : Process
   in_kernel = record (process_of r words slot process) { bank = bank_of process }
 
@@ -253,15 +260,15 @@ module _ (r : Records) (head : HeadRec) (slot : ℕ) (process : ProcRec) (trap :
   further : (now : Records) (now_tapes : ℕ → List ℕ) → AreOnTerminals r → (in_it : InWrite r process)
       → IsDone r words tapes slot process (planned_piece r words slot trap head process) now now_tapes
       → unix_of now words now_tapes InKernel (steps + 1) (traps + 1)
-        ≡ piece_on trapping process.pid in_kernel process.done (description_of trapping in_kernel (argument in_kernel 0))
+      ≡ piece_on trapping process.pid in_kernel process.done (description_of trapping in_kernel (argument in_kernel 0))
   unfolding planned_piece
   further now now_tapes others in_it served =
       let d = in_it.description in
       let other : d.object ≢ 1 = subst (λ (held : Option DescRec). IfSome held (λ d. d.object ≢ 1)) in_it.is_named (named_is r process.descs (argument_of process 0) others) in
       let plan : IsDone r words tapes slot process (planned_tty (pages_of r words slot process) (caller_with slot trap head process) d.index process.done) now now_tapes =
-          subst (λ (held : Option DescRec). IsDone r words tapes slot process (planned_further (pages_of r words slot process) (caller_with slot trap head process) held) now now_tapes) in_it.is_named served in
+      subst (λ (held : Option DescRec). IsDone r words tapes slot process (planned_further (pages_of r words slot process) (caller_with slot trap head process) held) now now_tapes) in_it.is_named served in
       let description : description_of trapping in_kernel (argument_of process 0) ≡ Some (described_as d) =
-          names r head slot process trap words tapes InKernel steps traps sound is_head is tt (argument_of process 0) ∙ ap described in_it.is_named in
+      names r head slot process trap words tapes InKernel steps traps sound is_head is tt (argument_of process 0) ∙ ap described in_it.is_named in
       served_on r head slot process trap words tapes InKernel steps traps sound is_head is tt d process.done now now_tapes other plan
       ∙ sym (ap (piece_on trapping process.pid in_kernel process.done) description)
 
