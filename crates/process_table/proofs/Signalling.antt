@@ -20,16 +20,18 @@ use Rattle.record_layouts.specs.Held.{Records, with_items}
 use Rattle.record_layouts.specs.Pages.{is_live, region_of, pages_of, frame_of, entry_for}
 use Rattle.record_layouts.specs.Proc.{FitsProc, FitsLive}
 use Rattle.record_layouts.specs.Sig.{FitsSig}
+use Rattle.record_layouts.specs.Spelling.{IsStatus}
 use Rattle.record_layouts.specs.Decode.{InKernel, call_of, descriptor_of, is_pending, handlers_of, handler_save_of, procedure_save_of, process_of, process_at, processes_of, unix_of}
 use Rattle.record_layouts.specs.Sound.{IsIn, AreNumbered, AreSound}
 use Rattle.process_table.specs.Patches.{bank_of, ended_items, signal_items, handler_of, in_handler, interrupted, signalled_process, without_signal}
 use Rattle.process_table.proofs.Ended.{live_fits}
 use Rattle.process_table.proofs.Pending.{fewer_fit}
-use Rattle.process_table.proofs.Kept.{IsKin, set_here, same_or_not, set_other, kin_itself}
+use Rattle.process_table.proofs.Kept.{IsKin, set_here, same_or_not, set_other, kin_itself, same_regions}
 use Rattle.process_table.proofs.Seats.{found_in}
 use Rattle.process_table.proofs.Regions.{SameRegions, changed, pages_same, pages_stay}
-use Rattle.process_table.proofs.Endings.{served}
-use Rattle.process_table.proofs.EndedSound.{held_by_place, filled_by_place}
+use Rattle.process_table.proofs.Endings.{served, ended_are}
+use Rattle.process_table.proofs.EndedSound.{held_by_place, filled_by_place, ended_sound}
+use Rattle.process_table.proofs.EndedUnix.{ended_unix}
 use Rattle.process_table.proofs.Changes.{IsChange, AreFor, changed_records, change_sound}
 use Rattle.process_table.proofs.ChangedUnix.{changed_unix}
 
@@ -185,3 +187,144 @@ made_is r head words slot process new signals signal trap made fits small is =
       procedure_save = is.procedure_save i;
       parent = is.parent i;
     })
+
+-- a signal that is dropped
+dropped_is : (r : Records) (words : WordMap) (slot : ℕ) (process : ProcRec) (signals : SigRec) (signal : ℕ) → is_live process ≡ true → r.sigs slot ≡ Some signals
+    → IsMade r words slot process process signals signal (unix_without (process_of r words slot process) signal)
+unfolding process_of
+dropped_is r words slot process signals signal live there = record {
+  regions = same_regions process live;
+  call = refl; bank = refl; pages = refl; brk = refl; descriptors = refl; same_descriptors = refl;
+  handlers = ap handlers_of (sym there);
+  pending = λ s. ap (λ (o : Option SigRec). updated (is_pending o) signal false s) (sym there);
+  handler_save = refl; procedure = refl; procedure_save = refl; parent = refl;
+}
+
+-- the flags once a handler runs
+handler_runs : (flags : ℕ) → ((flags / 2 * 2 + 1) % 2 == 1) ≡ true
+handler_runs flags = let one : (flags / 2 * 2 + 1) % 2 ≡ 1 = omega arith in grind (arith, nat_tests, one)
+
+procedure_stays : (flags : ℕ) → (flags / 2 * 2 + 1) / 2 ≡ flags / 2
+procedure_stays flags = omega arith
+
+saves_stay : (flags : ℕ) (save : Bank × ℕ) → (if (flags / 2 * 2 + 1) / 2 == 1 then Some save else None) ≡ (if flags / 2 == 1 then Some save else None)
+saves_stay flags save = ap (λ (n : ℕ). if n == 1 then Some save else None) (procedure_stays flags)
+
+-- a handler that begins
+begun_is : (r : Records) (words : WordMap) (slot : ℕ) (process : ProcRec) (signals : SigRec) (signal handler : ℕ) → is_live process ≡ true → r.sigs slot ≡ Some signals
+    → IsMade r words slot process (in_handler (interrupted process) signal handler) signals signal
+        (entered_in_handler (interrupted_in (unix_without (process_of r words slot process) signal) (call_of process)) signal handler)
+unfolding process_of
+begun_is r words slot process signals signal handler live there =
+    let handlers : signals.handlers ≡ handlers_of (r.sigs slot) = ap handlers_of (sym there) in
+    let pending : (s : ℕ) → updated (is_pending (Some signals)) signal false s ≡ updated (is_pending (r.sigs slot)) signal false s =
+        λ s. ap (λ (o : Option SigRec). updated (is_pending o) signal false s) (sym there) in
+    elim (cases_Bool (process.state == 2)) [
+      inl call ↦ rw call (record {
+        regions = record { live = refl; lives = live; code = refl; values = refl; brk = refl };
+        call = refl; bank = refl; pages = refl; brk = refl; descriptors = refl; same_descriptors = refl;
+        handlers = handlers; pending = pending;
+        handler_save = rw (handler_runs process.flags) refl;
+        procedure = refl; procedure_save = saves_stay process.flags (process.crash_save, process.mask); parent = refl;
+      })
+    | inr out ↦ rw out (record {
+        regions = record { live = live; lives = live; code = refl; values = refl; brk = refl };
+        call = rw out refl; bank = refl; pages = refl; brk = refl; descriptors = refl; same_descriptors = refl;
+        handlers = handlers; pending = pending;
+        handler_save = rw (handler_runs process.flags) refl;
+        procedure = refl; procedure_save = saves_stay process.flags (process.crash_save, process.mask); parent = refl;
+      }) ]
+
+-- the process that a signal leaves, where its handler does not end it
+abbrev left_by : Process → (signal handler : ℕ) → Process
+left_by p signal handler = if handler == 1 then unix_without p signal else entered_in_handler (interrupted_in (unix_without p signal) p.call) signal handler
+
+left_is : (r : Records) (words : WordMap) (slot : ℕ) (process : ProcRec) (signals : SigRec) (signal handler : ℕ) → is_live process ≡ true → r.sigs slot ≡ Some signals
+    → IsMade r words slot process (signalled_process process signal handler) signals signal (left_by (process_of r words slot process) signal handler)
+unfolding process_of
+left_is r words slot process signals signal handler live there = elim (cases_Bool (handler == 1)) [
+    inl dropped ↦ rw dropped (dropped_is r words slot process signals signal live there)
+  | inr runs ↦ rw runs (begun_is r words slot process signals signal handler live there) ]
+
+-- a handler that does not end the process
+pub signal_are : (r : Records) (head : HeadRec) (slot : ℕ) (process : ProcRec) (signals : SigRec) (signal trap : ℕ) → (handler_of signals signal == 0) ≡ false
+    → with_items r (signal_items head slot process signals signal trap)
+      ≡ changed_records r head slot process (signalled_process process signal (handler_of signals signal)) (updated r.sigs slot (Some (without_signal signals signal))) trap
+unfolding signal_items
+signal_are r head slot process signals signal trap goes_on = rw goes_on refl
+
+pub signal_ends : (r : Records) (head : HeadRec) (slot : ℕ) (process : ProcRec) (signals : SigRec) (signal trap : ℕ) → (handler_of signals signal == 0) ≡ true
+    → with_items r (signal_items head slot process signals signal trap) ≡ with_items r (ended_items head slot process (0x100 + signal) trap)
+unfolding signal_items
+signal_ends r head slot process signals signal trap ends = rw ends refl
+
+killed_status : (signal : ℕ) → 1 ≤ signal → signal < 16 → IsStatus (0x100 + signal)
+killed_status signal from to = inr (inl (omega arith, omega arith))
+
+pub signal_sound : (r : Records) (head : HeadRec) (slot : ℕ) (process : ProcRec) (signals : SigRec) (signal trap : ℕ) → AreSound r → r.head ≡ Some head → IsIn r slot process
+    → r.sigs slot ≡ Some signals → 1 ≤ signal → signal < 16 → AreSound (with_items r (signal_items head slot process signals signal trap))
+signal_sound r head slot process signals signal trap sound is_head is there from to = elim (cases_Bool (handler_of signals signal == 0)) [
+    inl ends ↦ subst AreSound (sym (signal_ends r head slot process signals signal trap ends ∙ ended_are r head slot process (0x100 + signal) trap))
+        (ended_sound r head slot process (0x100 + signal) trap sound is_head is (killed_status signal from to))
+  | inr goes_on ↦ subst AreSound (sym (signal_are r head slot process signals signal trap goes_on))
+        (change_sound r head slot process (signalled_process process signal (handler_of signals signal)) (updated r.sigs slot (Some (without_signal signals signal))) trap sound
+          (signal_change r head slot process signals signal (handler_of signals signal) sound is_head is there)) ]
+
+begun_descriptors : (p : Process) (signal handler : ℕ) (call : CallState) → (entered_in_handler (interrupted_in (unix_without p signal) call) signal handler).descriptors ≡ p.descriptors
+begun_descriptors p signal handler Out = refl
+begun_descriptors p signal handler (In number done) = refl
+
+left_descriptors : (p : Process) (signal handler : ℕ) → (left_by p signal handler).descriptors ≡ p.descriptors
+left_descriptors p signal handler = elim (cases_Bool (handler == 1)) [
+    inl dropped ↦ rw dropped refl
+  | inr runs ↦ rw runs (begun_descriptors p signal handler p.call) ]
+
+in_kernel : (r : Records) (words : WordMap) (tapes : ℕ → List ℕ) (steps traps : ℕ) (slot : ℕ) (process : ProcRec) → AreSound r → IsIn r slot process
+    → (unix_of r words tapes InKernel steps traps).processes process.pid ≡ Some (process_of r words slot process)
+unfolding unix_of processes_of
+in_kernel r words tapes steps traps slot process sound is = found_in r words slot process sound is
+
+handler_same : (r : Records) (words : WordMap) (slot : ℕ) (process : ProcRec) (signals : SigRec) (signal : ℕ) → r.sigs slot ≡ Some signals
+    → handler_of signals signal ≡ slice_index (process_of r words slot process).handlers (signal - 1)
+unfolding process_of
+handler_same r words slot process signals signal there = ap (λ (o : Option SigRec). slice_index (handlers_of o) (signal - 1)) (sym there)
+
+left_unix : (r : Records) (head : HeadRec) (slot : ℕ) (process : ProcRec) (signals : SigRec) (signal trap : ℕ) (words : WordMap) (tapes : ℕ → List ℕ) (steps traps : ℕ)
+    → AreSound r → r.head ≡ Some head → IsIn r slot process → r.sigs slot ≡ Some signals → signal < 16
+    → unix_of (changed_records r head slot process (signalled_process process signal (handler_of signals signal)) (updated r.sigs slot (Some (without_signal signals signal))) trap) words tapes InKernel (steps + 1) (traps + 1)
+      ≡ with_process (trapped (unix_of r words tapes InKernel steps traps) process.pid) process.pid (left_by (process_of r words slot process) signal (handler_of signals signal))
+left_unix r head slot process signals signal trap words tapes steps traps sound is_head is there to =
+    let p = process_of r words slot process in
+    let handler = handler_of signals signal in
+    let new = signalled_process process signal handler in
+    let made = left_by p signal handler in
+    let fits : FitsSig signals = subst (λ (o : Option SigRec). IfSome o FitsSig) there (sound.values.sigs slot) in
+    let fields = left_is r words slot process signals signal handler is.live there in
+    changed_unix r head slot process new (updated r.sigs slot (Some (without_signal signals signal))) trap words tapes InKernel steps traps p made sound
+      (signal_change r head slot process signals signal handler sound is_head is there) tt (in_kernel r words tapes steps traps slot process sound is)
+      (made_is r head words slot process new signals signal trap made fits to fields) (left_descriptors p signal handler)
+
+left_apart : (u : Unix) (pid : ℕ) (p : Process) (signal handler : ℕ) → with_process u pid (left_by p signal handler)
+    ≡ (if handler == 1 then with_process u pid (unix_without p signal) else with_process u pid (entered_in_handler (interrupted_in (unix_without p signal) p.call) signal handler))
+left_apart u pid p signal handler = elim (cases_Bool (handler == 1)) [ inl dropped ↦ rw dropped refl | inr runs ↦ rw runs refl ]
+
+-- what the Unix makes of the signal
+pub signal_unix : (r : Records) (head : HeadRec) (slot : ℕ) (process : ProcRec) (signals : SigRec) (signal trap : ℕ) (words : WordMap) (tapes : ℕ → List ℕ) (steps traps : ℕ)
+    → AreSound r → r.head ≡ Some head → IsIn r slot process → r.sigs slot ≡ Some signals → 1 ≤ signal → signal < 16
+    → unix_of (with_items r (signal_items head slot process signals signal trap)) words tapes InKernel (steps + 1) (traps + 1)
+      ≡ signalled (unix_of r words tapes InKernel steps traps) process.pid (process_of r words slot process) signal
+unfolding signalled signalled_by
+signal_unix r head slot process signals signal trap words tapes steps traps sound is_head is there from to =
+    let u = unix_of r words tapes InKernel steps traps in
+    let p = process_of r words slot process in
+    let held : u.processes process.pid ≡ Some p = in_kernel r words tapes steps traps slot process sound is in
+    let handler : handler_of signals signal ≡ slice_index p.handlers (signal - 1) = handler_same r words slot process signals signal there in
+    subst (λ (h : ℕ). unix_of (with_items r (signal_items head slot process signals signal trap)) words tapes InKernel (steps + 1) (traps + 1)
+        ≡ signalled_by (trapped u process.pid) process.pid p signal h) handler
+      (elim (cases_Bool (handler_of signals signal == 0)) [
+        inl ends ↦ rw ends (ap (λ (x : Records). unix_of x words tapes InKernel (steps + 1) (traps + 1))
+            (signal_ends r head slot process signals signal trap ends ∙ ended_are r head slot process (0x100 + signal) trap)
+          ∙ ended_unix r head slot process (0x100 + signal) trap words tapes InKernel steps traps p sound is_head is (killed_status signal from to) tt held)
+      | inr goes_on ↦ rw goes_on (ap (λ (x : Records). unix_of x words tapes InKernel (steps + 1) (traps + 1)) (signal_are r head slot process signals signal trap goes_on)
+          ∙ (left_unix r head slot process signals signal trap words tapes steps traps sound is_head is there to
+          ∙ left_apart (trapped u process.pid) process.pid p signal (handler_of signals signal))) ])
