@@ -19,10 +19,11 @@ use Rattle.record_layouts.specs.Decode.{Context, InKernel, InUser, slot_by, proc
 use Rattle.record_layouts.specs.Sound.{IsIn, AreNumbered, AreSound}
 use Rattle.process_table.proofs.Least.{least_passes}
 use Rattle.process_table.proofs.Regions.{changed}
+use Rattle.process_table.specs.Meaning.{IsOf}
 use Rattle.process_table.proofs.Kept.{set_here, set_other, same_or_not}
 use Rattle.process_table.proofs.Seats.{Missing, Living, living, found_in, not_found}
 use Rattle.process_table.proofs.Changes.{IsChange, AreFor, changed_records, change_sound, here_now}
-use Rattle.process_table.proofs.EndedUnix.{IsOf, others_are, live_not_ended}
+use Rattle.process_table.proofs.EndedUnix.{others_are, live_not_ended}
 use Rattle.process_table.proofs.Endings.{served}
 
 -- what the Unix has of the process of a slot: all but the bank is told by its record

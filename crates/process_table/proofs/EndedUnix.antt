@@ -18,6 +18,7 @@ use Rattle.record_layouts.specs.Pages.{is_live, pages_of, frame_of, entry_for}
 use Rattle.record_layouts.specs.Spelling.{IsStatus}
 use Rattle.record_layouts.specs.Decode.{Context, InKernel, InUser, slot_by, process_of, process_at, processes_of, with_bank, is_ended_as, ended_by, ended_in, ended_of, description_by, terminal_by, status_by, next_by, last_by, position_by, unix_of}
 use Rattle.record_layouts.specs.Sound.{IsIn, AreNumbered, AreSound}
+use Rattle.process_table.specs.Meaning.{IsOf}
 use Rattle.process_table.specs.Least.{IsLeast, NonePasses}
 use Rattle.process_table.specs.Patches.{ended_items, ended_process, ended_exit}
 use Rattle.process_table.proofs.Least.{least_found, least_passes}
@@ -26,11 +27,6 @@ use Rattle.process_table.proofs.Kept.{set_here, set_other, same_or_not}
 use Rattle.process_table.proofs.Seats.{Missing, Living, living, found_in, not_found, pid_range}
 use Rattle.process_table.proofs.Endings.{served, ended_records, ended_are, slot_before, slot_still}
 use Rattle.process_table.proofs.EndedSound.{ended_sound, ended_before}
-
--- the processor is in the kernel, or in this process
-abbrev pub IsOf : Context → (pid : ℕ) → Type 0
-IsOf InKernel pid = Unit {0}
-IsOf (InUser user count bank) pid = user ≡ pid
 
 -- what the processor has of a process is not seen of another
 pub others_are : (r : Records) (words : WordMap) (context : Context) (pid q : ℕ) → IsOf context pid → (q ≡ pid → ⊥) → processes_of r words context q ≡ process_at r words q

@@ -28,7 +28,7 @@ use Rattle.process_table.proofs.EndedUnix.{ended_there}
 use Rattle.process_table.proofs.Seats.{Missing, Living, living, found_in, pid_range}
 
 -- two tests of which each follows from the other
-same_tests : (a b : Bool) → (a ≡ true → b ≡ true) → (b ≡ true → a ≡ true) → a ≡ b
+pub same_tests : (a b : Bool) → (a ≡ true → b ≡ true) → (b ≡ true → a ≡ true) → a ≡ b
 same_tests true b there back = sym (there refl)
 same_tests false true there back = back refl
 same_tests false false there back = refl
@@ -260,3 +260,20 @@ call_is r words tapes steps traps now slot process sound is state = elim (sound.
       let three : (process.call == 3) ≡ false = grind (arith, nat_tests, wait.0) in
       let ten : (process.call == 10) ≡ true = grind (arith, nat_tests, wait.0) in
       rw (two, three, ten) (wait_is r words tapes steps traps slot process sound is) ] ]
+
+-- a signal that goes next is one of 1 to 15
+pub signal_range : (process : ProcRec) (signals : SigRec) (signal : ℕ) → next_signal process signals ≡ Some signal → (1 ≤ signal) × (signal < 16)
+unfolding next_signal
+signal_range process signals signal next = elim (cases_Bool (is_pending (Some signals) 9)) [
+    inl kill ↦
+      let nine : Some 9 ≡ Some signal = rw kill at next in
+      let same : 9 ≡ signal = cc in
+      (omega (arith, same), omega (arith, same))
+  | inr other ↦ elim (cases_Bool (process.flags % 2 == 1)) [
+      inl runs ↦
+        let none : None ≡ Some signal = rw runs at (rw other at next) in
+        absurd (cc none)
+    | inr quiet ↦
+        let found : least_from (is_pending (Some signals)) 1 15 ≡ Some signal = rw quiet at (rw other at next) in
+        let within = least_within (is_pending (Some signals)) 1 15 signal found in
+        (within.0, omega (arith, within.1)) ] ]

@@ -17,11 +17,11 @@ use Rattle.record_layouts.specs.Decode.{Context, InKernel, InUser, process_of, p
 use Rattle.record_layouts.specs.Sound.{IsIn, AreNumbered, AreSound}
 use Rattle.process_table.specs.Patches.{saved_items, saved_process}
 use Rattle.process_table.proofs.Ended.{live_fits}
+use Rattle.process_table.specs.Meaning.{IsOf}
 use Rattle.process_table.proofs.Kept.{IsKin, set_here, same_or_not, set_other}
 use Rattle.process_table.proofs.Seats.{found_in}
 use Rattle.process_table.proofs.Changes.{IsChange, AreFor, changed_records, change_sound}
 use Rattle.process_table.proofs.ChangedUnix.{changed_unix}
-use Rattle.process_table.proofs.EndedUnix.{IsOf}
 
 pub saved_are : (r : Records) (head : HeadRec) (slot : ℕ) (process : ProcRec) (bank : Bank) (trap : ℕ)
     → with_items r (saved_items head slot process bank trap) ≡ changed_records r head slot process (saved_process process bank) r.sigs trap
