@@ -1,13 +1,11 @@
 -- Records in which one live process is changed: they are sound as before.
-use Rattle.std.proofs.Common.{◌≡◌, ◌≢◌, ◌⊎◌, ◌==◌, ℕ, ◌+◌, ◌-◌, ◌<◌, ◌≤◌, Bool, true, false, nat_lt, Option, Some, None, IfSome, is_some, inl, inr, refl, sym, ap, subst, ◌∙◌, arith}
+use Rattle.std.proofs.Common.{◌≡◌, ℕ, ◌<◌, true, nat_lt, Option, Some, IfSome, is_some, inl, inr, refl, sym, ap, subst, ◌∙◌, arith}
 use Rattle.std.proofs.lemmas.Bool.Decides.{nat_tests}
-use Rattle.std.proofs.lemmas.Grind.{common_steps}
 use Rattle.ow_base.specs.Words.{updated}
 use Rattle.record_layouts.specs.declared.head.HeadRec.{HeadRec}
 use Rattle.record_layouts.specs.declared.proc.ProcRec.{ProcRec}
 use Rattle.record_layouts.specs.declared.sig.SigRec.{SigRec}
-use Rattle.record_layouts.specs.declared.exit.ExitRec.{ExitRec}
-use Rattle.record_layouts.specs.Held.{Records, AreComplete, AreValues}
+use Rattle.record_layouts.specs.Held.{Records}
 use Rattle.record_layouts.specs.Pages.{is_live}
 use Rattle.record_layouts.specs.Head.{FitsHead}
 use Rattle.record_layouts.specs.Proc.{FitsProc}
@@ -15,7 +13,7 @@ use Rattle.record_layouts.specs.Sig.{FitsSig}
 use Rattle.record_layouts.specs.Decode.{slot_by, next_by}
 use Rattle.record_layouts.specs.Sound.{IsIn, AreNumbered, AreSound}
 use Rattle.process_table.proofs.Regions.{changed}
-use Rattle.process_table.proofs.Kept.{set_here, set_other, same_or_not, IsKin, kin_itself, Was, AllWere, calls_stay, mapped_stay}
+use Rattle.process_table.proofs.Kept.{set_here, set_other, same_or_not, IsKin, kin_itself, AllWere, calls_stay, mapped_stay}
 use Rattle.process_table.proofs.Endings.{served}
 use Rattle.process_table.proofs.EndedSound.{held_by_place, filled_by_place, served_fits, where_held}
 use Rattle.process_table.proofs.Seats.{one_process}
@@ -43,12 +41,13 @@ pub all_kin : (r : Records) (head : HeadRec) (slot : ℕ) (process new : ProcRec
     → AllWere r (Some (served head trap process.pid)) (updated r.procs slot (Some new)) sigs r.exits
 all_kin r head slot process new sigs trap change = record {
   was = λ place other now. elim (where_held r.procs slot place new other now.there) [
-      inl here ↦ record {
-        old = process;
-        is = subst (λ (k : ℕ). IsIn r k process) (sym here.0) change.is;
-        kin = subst (λ (p : ProcRec). IsKin process p) (sym here.1) change.kin;
-      }
-    | inr before ↦ record { old = other; is = record { within = now.within; there = before.1; live = now.live }; kin = kin_itself other now.live } ];
+    | inl here ↦ record {
+      old = process;
+      is = subst (λ (k : ℕ). IsIn r k process) (sym here.0) change.is;
+      kin = subst (λ (p : ProcRec). IsKin process p) (sym here.1) change.kin;
+    }
+    | inr before ↦ record { old = other; is = record { within = now.within; there = before.1; live = now.live }; kin = kin_itself other now.live }
+  ];
 }
 
 -- a live process has not ended
@@ -58,8 +57,9 @@ live_state process live ended = absurd (grind (arith, nat_tests, live, ended))
 ended_still : (r : Records) (head : HeadRec) (slot : ℕ) (process new : ProcRec) (sigs : ℕ → Option SigRec) (place : ℕ) (other : ProcRec) → IsChange r head slot process new sigs
     → updated r.procs slot (Some new) place ≡ Some other → other.state ≡ 3 → r.procs place ≡ Some other
 ended_still r head slot process new sigs place other change there state = elim (where_held r.procs slot place new other there) [
-    inl here ↦ absurd (live_state new change.kin.regions.live (sym (ap (λ (p : ProcRec). p.state) here.1) ∙ state))
-  | inr before ↦ before.1 ]
+  | inl here ↦ absurd (live_state new change.kin.regions.live (sym (ap (λ (p : ProcRec). p.state) here.1) ∙ state))
+  | inr before ↦ before.1
+]
 
 pub here_now : (r : Records) (head : HeadRec) (slot : ℕ) (process new : ProcRec) (sigs : ℕ → Option SigRec) (trap : ℕ) → IsChange r head slot process new sigs
     → IsIn (changed_records r head slot process new sigs trap) slot new
@@ -70,23 +70,25 @@ process_now : (r : Records) (head : HeadRec) (slot : ℕ) (process new : ProcRec
 process_now r head slot process new sigs trap pid s numbered change exit =
     let found = numbered.process pid s exit in
     elim (same_or_not s slot) [
-      inl same ↦
-        let there : r.procs slot ≡ Some found.0 = subst (λ (k : ℕ). r.procs k ≡ Some found.0) same found.1.there in
-        let equal : process ≡ found.0 = one_process r slot process found.0 change.is.there there in
-        let pid_is : new.pid ≡ pid = change.kin.pid ∙ (ap (λ (p : ProcRec). p.pid) equal ∙ found.2) in
-        (new, subst (λ (k : ℕ). IsIn (changed_records r head slot process new sigs trap) k new) (sym same) (here_now r head slot process new sigs trap change), pid_is)
-    | inr apart ↦ (found.0, record { within = found.1.within; there = set_other r.procs slot (Some new) s apart ∙ found.1.there; live = found.1.live }, found.2) ]
+      | inl same ↦
+          let there : r.procs slot ≡ Some found.0 = subst (λ (k : ℕ). r.procs k ≡ Some found.0) same found.1.there in
+          let equal : process ≡ found.0 = one_process r slot process found.0 change.is.there there in
+          let pid_is : new.pid ≡ pid = change.kin.pid ∙ (ap (λ (p : ProcRec). p.pid) equal ∙ found.2) in
+          (new, subst (λ (k : ℕ). IsIn (changed_records r head slot process new sigs trap) k new) (sym same) (here_now r head slot process new sigs trap change), pid_is)
+      | inr apart ↦ (found.0, record { within = found.1.within; there = set_other r.procs slot (Some new) s apart ∙ found.1.there; live = found.1.live }, found.2)
+    ]
 
 signals_now : (r : Records) (head : HeadRec) (slot : ℕ) (process new : ProcRec) (sigs : ℕ → Option SigRec) (trap : ℕ) (place : ℕ) (other : ProcRec) → AreNumbered r → IsChange r head slot process new sigs
     → IsIn (changed_records r head slot process new sigs trap) place other → (signals : SigRec) × (sigs place ≡ Some signals) × (signals.pid ≡ other.pid)
 signals_now r head slot process new sigs trap place other numbered change now = elim (where_held r.procs slot place new other now.there) [
-    inl here ↦
+  | inl here ↦
       let own = change.signals.here in
       let pid : process.pid ≡ other.pid = sym change.kin.pid ∙ sym (ap (λ (p : ProcRec). p.pid) here.1) in
       (own.0, subst (λ (k : ℕ). sigs k ≡ Some own.0) (sym here.0) own.1, own.2 ∙ pid)
   | inr before ↦
       let held = numbered.signals place other (record { within = now.within; there = before.1; live = now.live }) in
-      (held.0, change.signals.elsewhere place before.0 ∙ held.1, held.2) ]
+      (held.0, change.signals.elsewhere place before.0 ∙ held.1, held.2)
+]
 
 pub change_numbered : (r : Records) (head : HeadRec) (slot : ℕ) (process new : ProcRec) (sigs : ℕ → Option SigRec) (trap : ℕ) → AreNumbered r → IsChange r head slot process new sigs
     → AreNumbered (changed_records r head slot process new sigs trap)
@@ -105,10 +107,11 @@ change_numbered r head slot process new sigs trap numbered change =
       one_ended = λ place third other another there too state states same. numbered.one_ended place third other another
           (ended_still r head slot process new sigs place other change there state) (ended_still r head slot process new sigs third another change too states) state states same;
       parents = λ place other there. elim (where_held r.procs slot place new other there) [
-          inl here ↦
+        | inl here ↦
             let parent : other.parent ≡ process.parent = ap (λ (p : ProcRec). p.parent) here.1 ∙ change.kin.parent in
             omega (arith, parent, next, numbered.parents slot process change.is.there)
-        | inr before ↦ omega (arith, next, numbered.parents place other before.1) ];
+        | inr before ↦ omega (arith, next, numbered.parents place other before.1)
+      ];
     }
 
 pub change_sound : (r : Records) (head : HeadRec) (slot : ℕ) (process new : ProcRec) (sigs : ℕ → Option SigRec) (trap : ℕ) → AreSound r → IsChange r head slot process new sigs
@@ -124,13 +127,23 @@ change_sound r head slot process new sigs trap sound change =
         head = refl;
         procs = λ k within. filled_by_place r.procs slot new k (complete.procs k within);
         sigs = change.signals.complete;
-        descs = complete.descs; files = complete.files; caches = complete.caches; terms = complete.terms; rows = complete.rows; exits = complete.exits;
+        descs = complete.descs;
+        files = complete.files;
+        caches = complete.caches;
+        terms = complete.terms;
+        rows = complete.rows;
+        exits = complete.exits;
       };
       values = record {
         head = served_fits head trap process.pid head_fits;
         procs = held_by_place (λ (p : Option ProcRec). IfSome p FitsProc) r.procs slot (Some new) change.fits values.procs;
         sigs = change.signals.values;
-        descs = values.descs; files = values.files; caches = values.caches; terms = values.terms; rows = values.rows; exits = values.exits;
+        descs = values.descs;
+        files = values.files;
+        caches = values.caches;
+        terms = values.terms;
+        rows = values.rows;
+        exits = values.exits;
       };
       numbered = change_numbered r head slot process new sigs trap sound.numbered change;
       in_calls = calls_stay r (Some (served head trap process.pid)) procs sigs r.exits were sound.in_calls;

@@ -1,18 +1,17 @@
 -- The process that is chosen by records is the one that the Unix chooses.
-use Rattle.std.proofs.Common.{◌≡◌, ◌≢◌, ◌⊎◌, ◌==◌, ◌&&◌, ◌||◌, ℕ, zero, suc, ◌+◌, ◌-◌, ◌<◌, ◌≤◌, Bool, true, false, nat_lt, List, Option, Some, None, is_some, inl, inr, refl, sym, ap, subst, ◌∙◌, arith}
+use Rattle.std.proofs.Common.{◌≡◌, ◌⊎◌, ◌==◌, ◌&&◌, ◌||◌, ℕ, zero, suc, ◌+◌, ◌-◌, ◌<◌, ◌≤◌, Bool, true, false, nat_lt, List, Option, Some, None, is_some, inl, inr, refl, sym, ap, subst, ◌∙◌, arith}
 use Rattle.std.proofs.lemmas.Bool.{cases_Bool}
 use Rattle.std.proofs.lemmas.Bool.Decides.{nat_tests}
 use Rattle.ow_base.specs.Sv32.{WordMap}
 use Rattle.ow_base.specs.declared.machine.Now.{Now}
 use Rattle.record_layouts.specs.declared.head.HeadRec.{HeadRec}
 use Rattle.record_layouts.specs.declared.proc.ProcRec.{ProcRec}
-use Rattle.record_layouts.specs.declared.sig.SigRec.{SigRec}
-use Rattle.record_layouts.specs.Unix.{Unix, Process, CallState, Out, In}
-use Rattle.record_layouts.specs.Choice.{Keys, least_from, or_else, deliverable, can_run, is_runnable, chosen, live_or, is_any_live}
+use Rattle.record_layouts.specs.Unix.{Process}
+use Rattle.record_layouts.specs.Choice.{least_from, or_else, deliverable, can_run, is_runnable, chosen, live_or, is_any_live}
 use Rattle.record_layouts.specs.Held.{Records}
 use Rattle.record_layouts.specs.Pages.{is_live}
 use Rattle.record_layouts.specs.Decode.{InKernel, call_of, process_of, process_at, processes_of, last_by, next_by, unix_of}
-use Rattle.record_layouts.specs.Sound.{IsIn, AreNumbered, AreSound, is_used}
+use Rattle.record_layouts.specs.Sound.{IsIn, AreSound, is_used}
 use Rattle.process_table.specs.Choosing.{keys_of, signal_by, is_runnable_in, is_ready, is_ready_one, pid_by, call_goes_on, IsNext, IsNone, IsChosen, last_pid}
 use Rattle.process_table.specs.Slots.{has_such, is_live_one}
 use Rattle.process_table.specs.Least.{IsLeast, NonePasses}
@@ -26,13 +25,14 @@ use Rattle.process_table.proofs.Running.{signal_is, call_is, same_tests}
 can_is : (r : Records) (words : WordMap) (tapes : ℕ → List ℕ) (steps traps : ℕ) (now : Now) (slot : ℕ) (process : ProcRec) → AreSound r → IsIn r slot process
     → can_run (keys_of now) (unix_of r words tapes InKernel steps traps) process.pid (process_of r words slot process) (call_of process) ≡ (process.state == 1 || call_goes_on r now process)
 can_is r words tapes steps traps now slot process sound is = elim (cases_Bool (process.state == 2)) [
-    inl call ↦
+  | inl call ↦
       let two : process.state ≡ 2 = grind (arith, nat_tests, call) in
       let one : (process.state == 1) ≡ false = grind (arith, nat_tests, two) in
       rw (call, one) (call_is r words tapes steps traps now slot process sound is two)
   | inr out ↦
       let one : (process.state == 1) ≡ true = grind (arith, nat_tests, out, is.live) in
-      rw (out, one) refl ]
+      rw (out, one) refl
+]
 
 pub runnable_is : (r : Records) (words : WordMap) (tapes : ℕ → List ℕ) (steps traps : ℕ) (now : Now) (slot : ℕ) (process : ProcRec) → AreSound r → IsIn r slot process
     → is_runnable (keys_of now) (unix_of r words tapes InKernel steps traps) process.pid (Some (process_of r words slot process)) ≡ is_runnable_in r now slot process
@@ -85,11 +85,11 @@ unix_ready r words tapes steps traps now above k (Some p) sound over (inr live) 
     let u = unix_of r words tapes InKernel steps traps in
     let both : Some p ≡ Some (process_of r words live.slot live.process) = sym same ∙ live.decoded in
     let runs : is_runnable (keys_of now) u k (Some (process_of r words live.slot live.process)) ≡ true =
-        subst (λ (o : Option Process). is_runnable (keys_of now) u k o ≡ true) both can in
+    subst (λ (o : Option Process). is_runnable (keys_of now) u k o ≡ true) both can in
     let runs_too : is_runnable (keys_of now) u live.process.pid (Some (process_of r words live.slot live.process)) ≡ true =
-        subst (λ (j : ℕ). is_runnable (keys_of now) u j (Some (process_of r words live.slot live.process)) ≡ true) (sym live.same) runs in
+    subst (λ (j : ℕ). is_runnable (keys_of now) u j (Some (process_of r words live.slot live.process)) ≡ true) (sym live.same) runs in
     let by_records : is_runnable_in r now live.slot live.process ≡ true =
-        sym (runnable_is r words tapes steps traps now live.slot live.process sound live.is) ∙ runs_too in
+    sym (runnable_is r words tapes steps traps now live.slot live.process sound live.is) ∙ runs_too in
     (live.slot, live.process, record { is = live.is; over = omega (arith, live.same, over); can = by_records }, live.same)
 
 -- the test of the Unix
@@ -98,11 +98,14 @@ test_of r words tapes steps traps now pid = is_runnable (keys_of now) (unix_of r
 
 none_passes : (r : Records) (words : WordMap) (tapes : ℕ → List ℕ) (steps traps : ℕ) (now : Now) (above end : ℕ) → AreSound r → IsNone r now above
     → NonePasses (test_of r words tapes steps traps now) (above + 1) end
-none_passes r words tapes steps traps now above end sound none = record { none = λ k from to. elim (cases_Bool (test_of r words tapes steps traps now k)) [
-    inl can ↦
-      let ready = unix_ready r words tapes steps traps now above k (process_at r words k) sound (omega (arith, from)) (living r words k sound) refl can in
-      absurd (cc (sym (none.none ready.0 ready.2.is.within) ∙ ready_whole r now above ready.0 ready.1 ready.2))
-  | inr no_one ↦ no_one ] }
+none_passes r words tapes steps traps now above end sound none = record {
+  none = λ k from to. elim (cases_Bool (test_of r words tapes steps traps now k)) [
+    | inl can ↦
+        let ready = unix_ready r words tapes steps traps now above k (process_at r words k) sound (omega (arith, from)) (living r words k sound) refl can in
+        absurd (cc (sym (none.none ready.0 ready.2.is.within) ∙ ready_whole r now above ready.0 ready.1 ready.2))
+    | inr no_one ↦ no_one
+  ];
+}
 
 -- a live pid is below the next one
 pid_below : (r : Records) (slot : ℕ) (process : ProcRec) → AreSound r → IsIn r slot process → process.pid < next_by r.head
@@ -121,16 +124,19 @@ least_is r words tapes steps traps now above slot end process sound next there b
     let ready : Ready r now above slot process = subst (λ (p : ProcRec). Ready r now above slot p) same found.1 in
     let pid : pid_by (r.procs slot) ≡ process.pid = ap pid_by there in
     let passes : test_of r words tapes steps traps now process.pid ≡ true =
-        ap (is_runnable (keys_of now) (unix_of r words tapes InKernel steps traps) process.pid) (found_in r words slot process sound ready.is)
-        ∙ (runnable_is r words tapes steps traps now slot process sound ready.is ∙ ready.can) in
-    let below : NonePasses (test_of r words tapes steps traps now) (above + 1) process.pid = record { none = λ k from less.
-        elim (cases_Bool (test_of r words tapes steps traps now k)) [
-          inl can ↦
-            let other = unix_ready r words tapes steps traps now above k (process_at r words k) sound (omega (arith, from)) (living r words k sound) refl can in
-            let least : pid_by (r.procs slot) ≤ pid_by (r.procs other.0) = next.least other.0 other.2.is.within (ready_whole r now above other.0 other.1 other.2) in
-            let other_pid : pid_by (r.procs other.0) ≡ other.1.pid = ap pid_by other.2.is.there in
-            absurd (omega (arith, least, pid, other_pid, other.3, less))
-        | inr no_one ↦ no_one ] } in
+    ap (is_runnable (keys_of now) (unix_of r words tapes InKernel steps traps) process.pid) (found_in r words slot process sound ready.is)
+    ∙ (runnable_is r words tapes steps traps now slot process sound ready.is ∙ ready.can) in
+    let below : NonePasses (test_of r words tapes steps traps now) (above + 1) process.pid = record {
+      none = λ k from less.
+          elim (cases_Bool (test_of r words tapes steps traps now k)) [
+            | inl can ↦
+                let other = unix_ready r words tapes steps traps now above k (process_at r words k) sound (omega (arith, from)) (living r words k sound) refl can in
+                let least : pid_by (r.procs slot) ≤ pid_by (r.procs other.0) = next.least other.0 other.2.is.within (ready_whole r now above other.0 other.1 other.2) in
+                let other_pid : pid_by (r.procs other.0) ≡ other.1.pid = ap pid_by other.2.is.there in
+                absurd (omega (arith, least, pid, other_pid, other.3, less))
+            | inr no_one ↦ no_one
+          ];
+    } in
     record { from = omega (arith, ready.over); to = before; passes = passes; below = below }
 
 last_same : (head : Option HeadRec) → last_by head InKernel ≡ last_pid head
@@ -148,7 +154,7 @@ found_above r words tapes steps traps now above slot process sound next there =
     let over : above < process.pid = subst (λ (p : ProcRec). above < p.pid) same found.1.over in
     let below : process.pid < next_by r.head = pid_below r slot process sound is in
     least_found (test_of r words tapes steps traps now) (above + 1) (next_by r.head - (above + 1)) (next_by r.head) process.pid (omega (arith, over, below))
-        (least_is r words tapes steps traps now above slot (next_by r.head) process sound next there below)
+    (least_is r words tapes steps traps now above slot (next_by r.head) process sound next there below)
 
 none_above : (r : Records) (words : WordMap) (tapes : ℕ → List ℕ) (steps traps : ℕ) (now : Now) (above count : ℕ) → AreSound r → IsNone r now above
     → least_from (test_of r words tapes steps traps now) (above + 1) count ≡ None
@@ -157,12 +163,15 @@ none_above r words tapes steps traps now above count sound none =
 
 -- none can run with a pid above another, where none can at all
 none_higher : (r : Records) (now : Now) (above : ℕ) → IsNone r now 0 → IsNone r now above
-none_higher r now above none = record { none = λ slot within. elim (cases_Bool (is_ready r now above slot)) [
-    inl ready ↦
-      let parts = ready_parts r now above slot within ready in
-      let low : Ready r now 0 slot parts.0 = record { is = parts.1.is; over = omega (arith, parts.1.over); can = parts.1.can } in
-      absurd (cc (sym (none.none slot within) ∙ ready_whole r now 0 slot parts.0 low))
-  | inr not_ready ↦ not_ready ] }
+none_higher r now above none = record {
+  none = λ slot within. elim (cases_Bool (is_ready r now above slot)) [
+    | inl ready ↦
+        let parts = ready_parts r now above slot within ready in
+        let low : Ready r now 0 slot parts.0 = record { is = parts.1.is; over = omega (arith, parts.1.over); can = parts.1.can } in
+        absurd (cc (sym (none.none slot within) ∙ ready_whole r now 0 slot parts.0 low))
+    | inr not_ready ↦ not_ready
+  ];
+}
 
 -- the choice of the Unix, by the last pid
 either_of : Records → WordMap → (ℕ → List ℕ) → (steps traps : ℕ) → Now → (last : ℕ) → Option ℕ
@@ -180,10 +189,11 @@ unfolding either_of
 chosen_is r words tapes steps traps now slot process sound is there =
     let low = least_from (test_of r words tapes steps traps now) 1 (next_by r.head - 1) in
     is_either r words tapes steps traps now ∙ (elim is [
-      inl next ↦ ap (λ (o : Option ℕ). or_else o low) (found_above r words tapes steps traps now (last_pid r.head) slot process sound next there)
-    | inr first ↦
-        ap (λ (o : Option ℕ). or_else o low) (none_above r words tapes steps traps now (last_pid r.head) (next_by r.head - (last_pid r.head + 1)) sound first.0)
-        ∙ found_above r words tapes steps traps now 0 slot process sound first.1 there ])
+      | inl next ↦ ap (λ (o : Option ℕ). or_else o low) (found_above r words tapes steps traps now (last_pid r.head) slot process sound next there)
+      | inr first ↦
+          ap (λ (o : Option ℕ). or_else o low) (none_above r words tapes steps traps now (last_pid r.head) (next_by r.head - (last_pid r.head + 1)) sound first.0)
+          ∙ found_above r words tapes steps traps now 0 slot process sound first.1 there
+    ])
 
 pub none_chosen : (r : Records) (words : WordMap) (tapes : ℕ → List ℕ) (steps traps : ℕ) (now : Now) → AreSound r → IsNone r now 0
     → chosen (keys_of now) (unix_of r words tapes InKernel steps traps) ≡ None
@@ -192,7 +202,7 @@ none_chosen r words tapes steps traps now sound none =
     let low = least_from (test_of r words tapes steps traps now) 1 (next_by r.head - 1) in
     is_either r words tapes steps traps now
     ∙ (ap (λ (o : Option ℕ). or_else o low) (none_above r words tapes steps traps now (last_pid r.head) (next_by r.head - (last_pid r.head + 1)) sound (none_higher r now (last_pid r.head) none))
-      ∙ none_above r words tapes steps traps now 0 (next_by r.head - 1) sound none)
+    ∙ none_above r words tapes steps traps now 0 (next_by r.head - 1) sound none)
 
 live_or_true : (p : Option Process) (others : Bool) → is_some p ≡ true → live_or p others ≡ true
 live_or_true (Some p) others here = refl
@@ -204,8 +214,9 @@ live_or_rest None others rest = rest
 
 after : (first k : ℕ) → first ≤ k → (first ≡ k → ⊥) → first + 1 ≤ k
 after first k from apart = elim (cases_Bool (first == k)) [
-    inl same ↦ let equal : first ≡ k = grind (arith, nat_tests) in absurd (apart equal)
-  | inr other ↦ grind (arith, nat_tests, other) ]
+  | inl same ↦ let equal : first ≡ k = grind (arith, nat_tests) in absurd (apart equal)
+  | inr other ↦ grind (arith, nat_tests, other)
+]
 
 live_first : (ps : ℕ → Option Process) (first : ℕ) (others : Bool) (held : Option Process) → ps first ≡ held → live_or held others ≡ true
     → (others ≡ true → (k : ℕ) × (is_some (ps k) ≡ true)) → (k : ℕ) × (is_some (ps k) ≡ true)
@@ -217,11 +228,12 @@ live_at : (ps : ℕ → Option Process) (first count k end : ℕ) → end ≡ fi
 unfolding is_any_live
 live_at ps first zero k end sum from to live = absurd (omega arith)
 live_at ps first (suc count) k end sum from to live = elim (cases_Bool (is_some (ps first))) [
-    inl here ↦ live_or_true (ps first) (is_any_live ps (first + 1) count) here
+  | inl here ↦ live_or_true (ps first) (is_any_live ps (first + 1) count) here
   | inr missing ↦
       let apart : first ≡ k → ⊥ = λ same. cc (sym missing ∙ subst (λ (j : ℕ). is_some (ps j) ≡ true) (sym same) live) in
       let later : first + 1 ≤ k = after first k from apart in
-      live_or_rest (ps first) (is_any_live ps (first + 1) count) (live_at ps (first + 1) count k end (omega arith) later to live) ]
+      live_or_rest (ps first) (is_any_live ps (first + 1) count) (live_at ps (first + 1) count k end (omega arith) later to live)
+]
 
 live_found : (ps : ℕ → Option Process) (first count : ℕ) → is_any_live ps first count ≡ true → (k : ℕ) × (is_some (ps k) ≡ true)
 unfolding is_any_live
@@ -242,13 +254,13 @@ unfolding unix_of processes_of
 any_live_is r words tapes steps traps sound =
     let ps = process_at r words in
     same_tests (is_any_live ps 1 (next_by r.head - 1)) (has_such r is_live_one)
-      (λ any.
-        let found = live_found ps 1 (next_by r.head - 1) any in
-        living_slot r words found.0 (living r words found.0 sound) found.1)
-      (λ such.
-        let passing : Passing (λ k. is_live_one (r.procs k)) 0 16 = such_passing r is_live_one such in
-        let held = live_slot r passing.number (r.procs passing.number) passing.to refl passing.passes in
-        let range = pid_range r passing.number held.0 sound.values held.1 in
-        let below : held.0.pid < next_by r.head = pid_below r passing.number held.0 sound held.1 in
-        live_at ps 1 (next_by r.head - 1) held.0.pid (next_by r.head) (omega (arith, range.0, below)) range.0 below
-          (ap is_some (found_in r words passing.number held.0 sound held.1)))
+    (λ any.
+    let found = live_found ps 1 (next_by r.head - 1) any in
+    living_slot r words found.0 (living r words found.0 sound) found.1)
+    (λ such.
+    let passing : Passing (λ k. is_live_one (r.procs k)) 0 16 = such_passing r is_live_one such in
+    let held = live_slot r passing.number (r.procs passing.number) passing.to refl passing.passes in
+    let range = pid_range r passing.number held.0 sound.values held.1 in
+    let below : held.0.pid < next_by r.head = pid_below r passing.number held.0 sound held.1 in
+    live_at ps 1 (next_by r.head - 1) held.0.pid (next_by r.head) (omega (arith, range.0, below)) range.0 below
+    (ap is_some (found_in r words passing.number held.0 sound held.1)))

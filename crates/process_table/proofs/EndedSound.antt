@@ -1,15 +1,12 @@
 -- Records in which a process has ended are sound.
-use Rattle.std.proofs.Common.{◌≡◌, ◌≢◌, ◌⊎◌, ◌==◌, ℕ, ◌+◌, ◌-◌, ◌<◌, ◌≤◌, Bool, true, false, nat_lt, Option, Some, None, IfSome, is_some, inl, inr, refl, sym, ap, subst, ◌∙◌, arith}
+use Rattle.std.proofs.Common.{◌≡◌, ◌⊎◌, ◌==◌, ℕ, ◌≤◌, true, nat_lt, Option, Some, IfSome, is_some, inl, inr, refl, sym, ap, subst, ◌∙◌, arith}
 use Rattle.std.proofs.lemmas.Bool.{cases_Bool}
 use Rattle.std.proofs.lemmas.Bool.Decides.{nat_tests}
-use Rattle.std.proofs.lemmas.Grind.{common_steps}
 use Rattle.ow_base.specs.Words.{updated}
 use Rattle.record_layouts.specs.declared.head.HeadRec.{HeadRec}
 use Rattle.record_layouts.specs.declared.proc.ProcRec.{ProcRec}
-use Rattle.record_layouts.specs.declared.sig.SigRec.{SigRec}
 use Rattle.record_layouts.specs.declared.exit.ExitRec.{ExitRec}
 use Rattle.record_layouts.specs.Held.{Records, AreComplete, AreValues}
-use Rattle.record_layouts.specs.Pages.{is_live}
 use Rattle.record_layouts.specs.Head.{FitsHead}
 use Rattle.record_layouts.specs.Proc.{FitsProc}
 use Rattle.record_layouts.specs.Exit.{FitsExit}
@@ -18,14 +15,15 @@ use Rattle.record_layouts.specs.Decode.{slot_by, next_by}
 use Rattle.record_layouts.specs.Sound.{IsIn, AreNumbered, AreSound, is_used}
 use Rattle.process_table.specs.Patches.{ended_process, ended_exit}
 use Rattle.process_table.proofs.Ended.{ended_fits}
-use Rattle.process_table.proofs.Kept.{set_here, set_other, same_or_not, AllWere, calls_stay, mapped_stay}
+use Rattle.process_table.proofs.Kept.{set_here, set_other, same_or_not, calls_stay, mapped_stay}
 use Rattle.process_table.proofs.Endings.{served, ended_records, IsOther, others, all_were, used_by, slot_before, slot_still}
 
 -- a place of a changed function holds what it is given, or what it held
 pub held_by_place : {V : Type 0} (P : V → Type 0) (f : ℕ → V) (place : ℕ) (value : V) → P value → ((k : ℕ) → P (f k)) → (k : ℕ) → P (updated f place value k)
 held_by_place P f place value new old k = elim (same_or_not k place) [
-    inl same ↦ subst P (sym (subst (λ (j : ℕ). updated f place value j ≡ value) (sym same) (set_here f place value))) new
-  | inr apart ↦ subst P (sym (set_other f place value k apart)) (old k) ]
+  | inl same ↦ subst P (sym (subst (λ (j : ℕ). updated f place value j ≡ value) (sym same) (set_here f place value))) new
+  | inr apart ↦ subst P (sym (set_other f place value k apart)) (old k)
+]
 
 pub served_fits : (head : HeadRec) (trap pid : ℕ) → FitsHead head → FitsHead (served head trap pid)
 served_fits head trap pid fits = record { layout = fits.layout; next_from = fits.next_from; next_to = fits.next_to; hand = fits.hand }
@@ -38,7 +36,12 @@ ended_values r head slot process status trap values is_head is word =
     record {
       head = served_fits head trap process.pid head_fits;
       procs = held_by_place (λ (p : Option ProcRec). IfSome p FitsProc) r.procs slot (Some (ended_process process status)) (ended_fits process status fits is.live word) values.procs;
-      sigs = values.sigs; descs = values.descs; files = values.files; caches = values.caches; terms = values.terms; rows = values.rows;
+      sigs = values.sigs;
+      descs = values.descs;
+      files = values.files;
+      caches = values.caches;
+      terms = values.terms;
+      rows = values.rows;
       exits = held_by_place (λ (e : Option ExitRec). IfSome e FitsExit) r.exits process.pid (Some (ended_exit status)) (inr (inr (record { state = refl; status = word }))) values.exits;
     }
 
@@ -50,7 +53,12 @@ pub ended_complete : (r : Records) (head : HeadRec) (slot : ℕ) (process : Proc
 ended_complete r head slot process status trap complete = record {
   head = refl;
   procs = λ k within. filled_by_place r.procs slot (ended_process process status) k (complete.procs k within);
-  sigs = complete.sigs; descs = complete.descs; files = complete.files; caches = complete.caches; terms = complete.terms; rows = complete.rows;
+  sigs = complete.sigs;
+  descs = complete.descs;
+  files = complete.files;
+  caches = complete.caches;
+  terms = complete.terms;
+  rows = complete.rows;
   exits = λ pid from to. filled_by_place r.exits process.pid (ended_exit status) pid (complete.exits pid from to);
 }
 
@@ -76,36 +84,41 @@ pub record Elsewhere (r : Records) (slot place : ℕ) (other : ProcRec) : Type 0
 pub where_held : (f : ℕ → Option ProcRec) (slot place : ℕ) (new other : ProcRec) → updated f slot (Some new) place ≡ Some other
     → ((place ≡ slot) × (other ≡ new)) ⊎ ((place ≡ slot → ⊥) × (f place ≡ Some other))
 where_held f slot place new other now = elim (same_or_not place slot) [
-    inl same ↦
+  | inl same ↦
       let held : updated f slot (Some new) slot ≡ Some other = subst (λ (k : ℕ). updated f slot (Some new) k ≡ Some other) same now in
       let both : Some new ≡ Some other = sym (set_here f slot (Some new)) ∙ held in
       let equal : other ≡ new = cc in
       inl (same, equal)
-  | inr apart ↦ inr (apart, sym (set_other f slot (Some new) place apart) ∙ now) ]
+  | inr apart ↦ inr (apart, sym (set_other f slot (Some new) place apart) ∙ now)
+]
 
 ended_now : (r : Records) (head : HeadRec) (slot : ℕ) (process : ProcRec) (status trap : ℕ) (place : ℕ) (other : ProcRec) → AreNumbered r → IsIn r slot process
     → (ended_records r head slot process status trap).procs place ≡ Some other → other.state ≡ 3
     → (exit : ExitRec) × ((ended_records r head slot process status trap).exits other.pid ≡ Some exit) × (exit.state ≡ 2)
 ended_now r head slot process status trap place other numbered is there state = elim (where_held r.procs slot place (ended_process process status) other there) [
-    inl here ↦
+  | inl here ↦
       let same : process.pid ≡ other.pid = sym (ap (λ (p : ProcRec). p.pid) here.1) in
       (ended_exit status, subst (λ (p : ℕ). updated r.exits process.pid (Some (ended_exit status)) p ≡ Some (ended_exit status)) same (set_here r.exits process.pid (Some (ended_exit status))), refl)
   | inr before ↦
       let held = numbered.ended place other before.1 state in
       let apart = ended_before r slot process place other numbered is before.1 state in
-      (held.0, set_other r.exits process.pid (Some (ended_exit status)) other.pid apart ∙ held.1, held.2) ]
+      (held.0, set_other r.exits process.pid (Some (ended_exit status)) other.pid apart ∙ held.1, held.2)
+]
 
 one_ended_now : (r : Records) (head : HeadRec) (slot : ℕ) (process : ProcRec) (status trap : ℕ) (place third : ℕ) (other another : ProcRec) → AreNumbered r → IsIn r slot process
     → (ended_records r head slot process status trap).procs place ≡ Some other → (ended_records r head slot process status trap).procs third ≡ Some another
     → other.state ≡ 3 → another.state ≡ 3 → other.pid ≡ another.pid → place ≡ third
 one_ended_now r head slot process status trap place third other another numbered is there too state states same =
     elim (where_held r.procs slot place (ended_process process status) other there) [
-      inl here ↦ elim (where_held r.procs slot third (ended_process process status) another too) [
-        inl here_too ↦ here.0 ∙ sym here_too.0
-      | inr before ↦ absurd (ended_before r slot process third another numbered is before.1 states (sym same ∙ ap (λ (p : ProcRec). p.pid) here.1)) ]
-    | inr before ↦ elim (where_held r.procs slot third (ended_process process status) another too) [
-        inl here_too ↦ absurd (ended_before r slot process place other numbered is before.1 state (same ∙ ap (λ (p : ProcRec). p.pid) here_too.1))
-      | inr before_too ↦ numbered.one_ended place third other another before.1 before_too.1 state states same ] ]
+      | inl here ↦ elim (where_held r.procs slot third (ended_process process status) another too) [
+        | inl here_too ↦ here.0 ∙ sym here_too.0
+        | inr before ↦ absurd (ended_before r slot process third another numbered is before.1 states (sym same ∙ ap (λ (p : ProcRec). p.pid) here.1))
+      ]
+      | inr before ↦ elim (where_held r.procs slot third (ended_process process status) another too) [
+        | inl here_too ↦ absurd (ended_before r slot process place other numbered is before.1 state (same ∙ ap (λ (p : ProcRec). p.pid) here_too.1))
+        | inr before_too ↦ numbered.one_ended place third other another before.1 before_too.1 state states same
+      ]
+    ]
 
 used_now : (r : Records) (head : HeadRec) (slot : ℕ) (process : ProcRec) (status : ℕ) (pid : ℕ) → AreNumbered r → r.head ≡ Some head → IsIn r slot process
     → 1 ≤ pid → pid ≤ 256 → is_used (updated r.exits process.pid (Some (ended_exit status)) pid) ≡ nat_lt pid head.next
@@ -113,12 +126,13 @@ used_now r head slot process status pid numbered is_head is from to =
     let next : next_by r.head ≡ head.next = ap next_by is_head in
     let used : is_used (r.exits pid) ≡ nat_lt pid head.next = numbered.used pid from to ∙ ap (λ (n : ℕ). nat_lt pid n) next in
     elim (same_or_not pid process.pid) [
-      inl same ↦
-        let live : is_used (r.exits pid) ≡ true = subst (λ (p : ℕ). is_used (r.exits p) ≡ true) (sym same) (used_by (r.exits process.pid) slot (numbered.exit slot process is)) in
-        let here : updated r.exits process.pid (Some (ended_exit status)) pid ≡ Some (ended_exit status) =
-            subst (λ (k : ℕ). updated r.exits process.pid (Some (ended_exit status)) k ≡ Some (ended_exit status)) (sym same) (set_here r.exits process.pid (Some (ended_exit status))) in
-        ap is_used here ∙ (sym live ∙ used)
-    | inr apart ↦ ap is_used (set_other r.exits process.pid (Some (ended_exit status)) pid apart) ∙ used ]
+      | inl same ↦
+          let live : is_used (r.exits pid) ≡ true = subst (λ (p : ℕ). is_used (r.exits p) ≡ true) (sym same) (used_by (r.exits process.pid) slot (numbered.exit slot process is)) in
+          let here : updated r.exits process.pid (Some (ended_exit status)) pid ≡ Some (ended_exit status) =
+          subst (λ (k : ℕ). updated r.exits process.pid (Some (ended_exit status)) k ≡ Some (ended_exit status)) (sym same) (set_here r.exits process.pid (Some (ended_exit status))) in
+          ap is_used here ∙ (sym live ∙ used)
+      | inr apart ↦ ap is_used (set_other r.exits process.pid (Some (ended_exit status)) pid apart) ∙ used
+    ]
 
 pub ended_numbered : (r : Records) (head : HeadRec) (slot : ℕ) (process : ProcRec) (status trap : ℕ) → AreNumbered r → r.head ≡ Some head → IsIn r slot process
     → AreNumbered (ended_records r head slot process status trap)
@@ -135,18 +149,19 @@ ended_numbered r head slot process status trap numbered is_head is =
           let before = slot_before r process.pid status pid s now in
           let found = numbered.process pid s before.1 in
           let apart : s ≡ slot → ⊥ = λ same.
-              let exit : slot_by (r.exits pid) ≡ Some slot = subst (λ (k : ℕ). slot_by (r.exits pid) ≡ Some k) same before.1 in
-              before.0 (numbered.one_slot pid process.pid slot exit (numbered.exit slot process is)) in
+          let exit : slot_by (r.exits pid) ≡ Some slot = subst (λ (k : ℕ). slot_by (r.exits pid) ≡ Some k) same before.1 in
+          before.0 (numbered.one_slot pid process.pid slot exit (numbered.exit slot process is)) in
           (found.0, record { within = found.1.within; there = set_other r.procs slot (Some (ended_process process status)) s apart ∙ found.1.there; live = found.1.live }, found.2);
       signals = λ place other now. numbered.signals place other (others r head slot process status trap place other numbered is now).is;
       ended = λ place other there state. ended_now r head slot process status trap place other numbered is there state;
       one_ended = λ place third other another there too state states same.
           one_ended_now r head slot process status trap place third other another numbered is there too state states same;
       parents = λ place other there. elim (where_held r.procs slot place (ended_process process status) other there) [
-          inl here ↦ 
+        | inl here ↦
             let parent : other.parent ≡ process.parent = ap (λ (p : ProcRec). p.parent) here.1 in
             omega (arith, parent, next, numbered.parents slot process is.there)
-        | inr before ↦ omega (arith, next, numbered.parents place other before.1) ];
+        | inr before ↦ omega (arith, next, numbered.parents place other before.1)
+      ];
     }
 
 pub ended_sound : (r : Records) (head : HeadRec) (slot : ℕ) (process : ProcRec) (status trap : ℕ) → AreSound r → r.head ≡ Some head → IsIn r slot process → IsStatus status

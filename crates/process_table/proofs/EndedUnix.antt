@@ -1,31 +1,27 @@
 -- Records in which a process has ended stand for the state in which it has.
-use Rattle.std.proofs.Common.{◌≡◌, ◌≢◌, ◌⊎◌, ◌==◌, ◌&&◌, ◌||◌, if◌then◌else◌, ℕ, zero, suc, ◌+◌, ◌-◌, ◌<◌, ◌≤◌, Bool, true, false, nat_lt, List, Option, Some, None, IfSome, is_some, inl, inr, refl, sym, ap, subst, ◌∙◌, arith}
+use Rattle.std.proofs.Common.{◌≡◌, ◌==◌, ◌&&◌, if◌then◌else◌, ℕ, zero, suc, ◌+◌, Bool, true, false, List, Option, Some, None, is_some, inl, inr, refl, sym, ap, subst, ◌∙◌, arith}
 use Rattle.std.proofs.lemmas.Bool.{cases_Bool}
 use Rattle.std.proofs.lemmas.Bool.Decides.{nat_tests}
-use Rattle.std.proofs.lemmas.Grind.{common_steps}
 use Rattle.ow_base.specs.Sv32.{WordMap}
 use Rattle.ow_base.specs.Words.{updated}
-use Rattle.ow_base.specs.declared.machine.Bank.{Bank}
 use Rattle.record_layouts.specs.declared.head.HeadRec.{HeadRec}
 use Rattle.record_layouts.specs.declared.proc.ProcRec.{ProcRec}
-use Rattle.record_layouts.specs.declared.sig.SigRec.{SigRec}
 use Rattle.record_layouts.specs.declared.exit.ExitRec.{ExitRec}
-use Rattle.record_layouts.specs.Unix.{Unix, Process, EndedChild, Description, in_use, is_named, is_named_by, AtKernel}
+use Rattle.record_layouts.specs.Unix.{Process, Description, in_use, is_named, is_named_by, AtKernel}
 use Rattle.record_layouts.specs.Calls.{trapped, ended_as, child_of, unless_child_of}
 use Rattle.record_layouts.specs.Choice.{least_from}
-use Rattle.record_layouts.specs.Held.{Records, with_items}
+use Rattle.record_layouts.specs.Held.{Records}
 use Rattle.record_layouts.specs.Pages.{is_live, pages_of, frame_of, entry_for}
 use Rattle.record_layouts.specs.Spelling.{IsStatus}
-use Rattle.record_layouts.specs.Decode.{Context, InKernel, InUser, slot_by, process_of, process_at, processes_of, with_bank, is_ended_as, ended_by, ended_in, ended_of, description_by, terminal_by, status_by, next_by, last_by, position_by, unix_of}
+use Rattle.record_layouts.specs.Decode.{Context, InKernel, InUser, slot_by, process_of, process_at, processes_of, with_bank, is_ended_as, ended_by, ended_in, ended_of, description_by, terminal_by, status_by, next_by, unix_of}
 use Rattle.record_layouts.specs.Sound.{IsIn, AreNumbered, AreSound}
 use Rattle.process_table.specs.Meaning.{IsOf}
-use Rattle.process_table.specs.Least.{IsLeast, NonePasses}
-use Rattle.process_table.specs.Patches.{ended_items, ended_process, ended_exit}
+use Rattle.process_table.specs.Least.{NonePasses}
+use Rattle.process_table.specs.Patches.{ended_process, ended_exit}
 use Rattle.process_table.proofs.Least.{least_found, least_passes}
-use Rattle.process_table.proofs.Regions.{changed}
 use Rattle.process_table.proofs.Kept.{set_here, set_other, same_or_not}
-use Rattle.process_table.proofs.Seats.{Missing, Living, living, found_in, not_found, pid_range}
-use Rattle.process_table.proofs.Endings.{served, ended_records, ended_are, slot_before, slot_still}
+use Rattle.process_table.proofs.Seats.{living, found_in, not_found}
+use Rattle.process_table.proofs.Endings.{ended_records}
 use Rattle.process_table.proofs.EndedSound.{ended_sound, ended_before}
 
 -- what the processor has of a process is not seen of another
@@ -33,8 +29,9 @@ pub others_are : (r : Records) (words : WordMap) (context : Context) (pid q : �
 unfolding processes_of
 others_are r words InKernel pid q of apart = refl
 others_are r words (InUser user count bank) pid q of apart = elim (cases_Bool (q == user)) [
-    inl same ↦ let equal : q ≡ user = grind (arith, nat_tests) in absurd (apart (equal ∙ of))
-  | inr other ↦ rw other refl ]
+  | inl same ↦ let equal : q ≡ user = grind (arith, nat_tests) in absurd (apart (equal ∙ of))
+  | inr other ↦ rw other refl
+]
 
 -- the parent of a process is told by its record
 parent_by : (r : Records) (words : WordMap) (slot : ℕ) (process : ProcRec) (p : Process) (decoded : Option Process)
@@ -69,30 +66,32 @@ others_stay r head slot process status trap words q sound is_head is word apart 
     let sound_now : AreSound new = ended_sound r head slot process status trap sound is_head is word in
     let exit : updated r.exits process.pid (Some (ended_exit status)) q ≡ r.exits q = set_other r.exits process.pid (Some (ended_exit status)) q apart in
     elim (living r words q sound) [
-      inl missing ↦
-        not_found new words q (ap slot_by exit ∙ missing.exit) ∙ sym missing.decoded
-    | inr live ↦
-        let places : live.slot ≡ slot → ⊥ = λ same.
-            apart (sound.numbered.one_slot q process.pid slot (subst (λ (k : ℕ). slot_by (r.exits q) ≡ Some k) same live.exit) (sound.numbered.exit slot process is)) in
-        let there : new.procs live.slot ≡ Some live.process = set_other r.procs slot (Some (ended_process process status)) live.slot places ∙ live.is.there in
-        let in_new : IsIn new live.slot live.process = record { within = live.is.within; there = there; live = live.is.live } in
-        let found : process_at new words q ≡ Some (process_of new words live.slot live.process) =
-            subst (λ (k : ℕ). process_at new words k ≡ Some (process_of new words live.slot live.process)) live.same (found_in new words live.slot live.process sound_now in_new) in
-        found ∙ (ap (λ (x : Process). Some x) (process_stays r head slot process status trap words live.slot live.process) ∙ sym live.decoded) ]
+      | inl missing ↦
+          not_found new words q (ap slot_by exit ∙ missing.exit) ∙ sym missing.decoded
+      | inr live ↦
+          let places : live.slot ≡ slot → ⊥ = λ same.
+          apart (sound.numbered.one_slot q process.pid slot (subst (λ (k : ℕ). slot_by (r.exits q) ≡ Some k) same live.exit) (sound.numbered.exit slot process is)) in
+          let there : new.procs live.slot ≡ Some live.process = set_other r.procs slot (Some (ended_process process status)) live.slot places ∙ live.is.there in
+          let in_new : IsIn new live.slot live.process = record { within = live.is.within; there = there; live = live.is.live } in
+          let found : process_at new words q ≡ Some (process_of new words live.slot live.process) =
+          subst (λ (k : ℕ). process_at new words k ≡ Some (process_of new words live.slot live.process)) live.same (found_in new words live.slot live.process sound_now in_new) in
+          found ∙ (ap (λ (x : Process). Some x) (process_stays r head slot process status trap words live.slot live.process) ∙ sym live.decoded)
+    ]
 
 pub processes_now : (r : Records) (head : HeadRec) (slot : ℕ) (process : ProcRec) (status trap : ℕ) (words : WordMap) (context : Context) (q : ℕ)
     → AreSound r → r.head ≡ Some head → IsIn r slot process → IsStatus status → IsOf context process.pid
     → process_at (ended_records r head slot process status trap) words q ≡ updated (processes_of r words context) process.pid None q
 processes_now r head slot process status trap words context q sound is_head is word of = elim (same_or_not q process.pid) [
-    inl same ↦
+  | inl same ↦
       let new = ended_records r head slot process status trap in
       let gone : slot_by (new.exits process.pid) ≡ None = ap slot_by (set_here r.exits process.pid (Some (ended_exit status))) in
       let here : process_at new words process.pid ≡ updated (processes_of r words context) process.pid None process.pid =
-          not_found new words process.pid gone ∙ sym (set_here (processes_of r words context) process.pid None) in
+      not_found new words process.pid gone ∙ sym (set_here (processes_of r words context) process.pid None) in
       subst (λ (k : ℕ). process_at new words k ≡ updated (processes_of r words context) process.pid None k) (sym same) here
   | inr apart ↦
       others_stay r head slot process status trap words q sound is_head is word apart
-      ∙ (sym (others_are r words context process.pid q of apart) ∙ sym (set_other (processes_of r words context) process.pid None q apart)) ]
+      ∙ (sym (others_are r words context process.pid q of apart) ∙ sym (set_other (processes_of r words context) process.pid None q apart))
+]
 
 -- descriptions that are named now were named before
 named_one : (ps : ℕ → Option Process) (pid number first : ℕ) → is_named_by number (updated ps pid None first) ≡ true → is_named_by number (ps first) ≡ true
@@ -102,17 +101,19 @@ named_before : (ps : ℕ → Option Process) (pid number first count : ℕ) → 
 unfolding is_named
 named_before ps pid number first zero named = named
 named_before ps pid number first (suc count) named = elim (cases_Bool (is_named_by number (updated ps pid None first))) [
-    inl here ↦ rw (named_one ps pid number first here) refl
+  | inl here ↦ rw (named_one ps pid number first here) refl
   | inr unnamed ↦
       let rest : is_named ps number (first + 1) count ≡ true = named_before ps pid number (first + 1) count (rw unnamed at named) in
-      elim (cases_Bool (is_named_by number (ps first))) [ inl held ↦ rw held refl | inr none ↦ rw none rest ] ]
+      elim (cases_Bool (is_named_by number (ps first))) [ inl held ↦ rw held refl | inr none ↦ rw none rest ]
+]
 
 pub in_use_now : (ps : ℕ → Option Process) (pid : ℕ) (ds : ℕ → Option Description) (number : ℕ)
     → in_use (updated ps pid None) ds number ≡ in_use (updated ps pid None) (in_use ps ds) number
 unfolding in_use
 in_use_now ps pid ds number = elim (cases_Bool (is_named (updated ps pid None) number 1 256)) [
-    inl named ↦ rw named (rw (named_before ps pid number 1 256 named) refl)
-  | inr not_named ↦ rw not_named refl ]
+  | inl named ↦ rw named (rw (named_before ps pid number 1 256 named) refl)
+  | inr not_named ↦ rw not_named refl
+]
 
 status_now : (exits : ℕ → Option ExitRec) (pid status q : ℕ) → status_by (updated exits pid (Some (ended_exit status)) q) ≡ updated (λ k. status_by (exits k)) pid (Some status) q
 status_now exits pid status q = elim (cases_Bool (q == pid)) [ inl same ↦ rw same refl | inr other ↦ rw other refl ]
@@ -124,10 +125,11 @@ ended_there None pid ended = absurd (cc ended)
 
 not_ended : (r : Records) (slot : ℕ) (process : ProcRec) (place : ℕ) → AreNumbered r → IsIn r slot process → is_ended_as process.pid (r.procs place) ≡ false
 not_ended r slot process place numbered is = elim (cases_Bool (is_ended_as process.pid (r.procs place))) [
-    inl ended ↦
+  | inl ended ↦
       let other = ended_there (r.procs place) process.pid ended in
       absurd (ended_before r slot process place other.0 numbered is other.1 other.2 other.3)
-  | inr none ↦ none ]
+  | inr none ↦ none
+]
 
 -- the slot of the process that has ended is found by its pid
 place_now : (r : Records) (slot : ℕ) (process : ProcRec) (status : ℕ) → AreNumbered r → IsIn r slot process
@@ -135,39 +137,45 @@ place_now : (r : Records) (slot : ℕ) (process : ProcRec) (status : ℕ) → Ar
 place_now r slot process status numbered is =
     let new = updated r.procs slot (Some (ended_process process status)) in
     let passes : is_ended_as process.pid (new slot) ≡ true =
-        ap (is_ended_as process.pid) (set_here r.procs slot (Some (ended_process process status))) ∙ grind (arith, nat_tests) in
-    let below : NonePasses (λ k. is_ended_as process.pid (new k)) 0 slot = record { none = λ k from less.
-        ap (is_ended_as process.pid) (set_other r.procs slot (Some (ended_process process status)) k (λ same. omega (arith, same, less))) ∙ not_ended r slot process k numbered is } in
+    ap (is_ended_as process.pid) (set_here r.procs slot (Some (ended_process process status))) ∙ grind (arith, nat_tests) in
+    let below : NonePasses (λ k. is_ended_as process.pid (new k)) 0 slot = record {
+      none = λ k from less.
+          ap (is_ended_as process.pid) (set_other r.procs slot (Some (ended_process process status)) k (λ same. omega (arith, same, less))) ∙ not_ended r slot process k numbered is;
+    } in
     least_found (λ k. is_ended_as process.pid (new k)) 0 16 16 slot refl (record { from = omega arith; to = is.within; passes = passes; below = below })
 
 other_pid : (pid q : ℕ) → (q ≡ pid → ⊥) → (3 == 3 && pid == q) ≡ false
 other_pid pid q apart = elim (cases_Bool (pid == q)) [
-    inl same ↦ let equal : pid ≡ q = grind (arith, nat_tests) in absurd (apart (sym equal))
-  | inr other ↦ rw other refl ]
+  | inl same ↦ let equal : pid ≡ q = grind (arith, nat_tests) in absurd (apart (sym equal))
+  | inr other ↦ rw other refl
+]
 
 pub live_not_ended : (process : ProcRec) (q : ℕ) → is_live process ≡ true → is_ended_as q (Some process) ≡ false
 live_not_ended process q live = elim (cases_Bool (process.state == 3)) [
-    inl ended ↦ let three : process.state ≡ 3 = grind (arith, nat_tests) in absurd (grind (arith, nat_tests, live))
-  | inr other ↦ rw other refl ]
+  | inl ended ↦ let three : process.state ≡ 3 = grind (arith, nat_tests) in absurd (grind (arith, nat_tests, live))
+  | inr other ↦ rw other refl
+]
 
 -- those of other pids are where they were
 test_same : (r : Records) (slot : ℕ) (process : ProcRec) (status q : ℕ) → IsIn r slot process → (q ≡ process.pid → ⊥) → (k : ℕ)
     → is_ended_as q (updated r.procs slot (Some (ended_process process status)) k) ≡ is_ended_as q (r.procs k)
 test_same r slot process status q is apart k = elim (same_or_not k slot) [
-    inl same ↦
+  | inl same ↦
       let now : is_ended_as q (updated r.procs slot (Some (ended_process process status)) slot) ≡ false =
-          ap (is_ended_as q) (set_here r.procs slot (Some (ended_process process status))) ∙ other_pid process.pid q apart in
+      ap (is_ended_as q) (set_here r.procs slot (Some (ended_process process status))) ∙ other_pid process.pid q apart in
       let before : is_ended_as q (r.procs slot) ≡ false = ap (is_ended_as q) is.there ∙ live_not_ended process q is.live in
       subst (λ (j : ℕ). is_ended_as q (updated r.procs slot (Some (ended_process process status)) j) ≡ is_ended_as q (r.procs j)) (sym same) (now ∙ sym before)
-  | inr elsewhere ↦ ap (is_ended_as q) (set_other r.procs slot (Some (ended_process process status)) k elsewhere) ]
+  | inr elsewhere ↦ ap (is_ended_as q) (set_other r.procs slot (Some (ended_process process status)) k elsewhere)
+]
 
 -- what becomes of an ended child of another pid
 child_by : (ps : ℕ → Option Process) (pid parent status : ℕ)
     → (if is_some (updated ps pid None parent) then Some (record { parent = parent; status = status }) else None)
-      ≡ unless_child_of pid (if is_some (ps parent) then Some (record { parent = parent; status = status }) else None)
+    ≡ unless_child_of pid (if is_some (ps parent) then Some (record { parent = parent; status = status }) else None)
 child_by ps pid parent status = elim (cases_Bool (parent == pid)) [
-    inl own ↦ elim (cases_Bool (is_some (ps parent))) [ inl live ↦ rw (own, live) (rw own refl) | inr dead ↦ rw (own, dead) refl ]
-  | inr other ↦ elim (cases_Bool (is_some (ps parent))) [ inl live ↦ rw (other, live) (rw other refl) | inr dead ↦ rw (other, dead) refl ] ]
+  | inl own ↦ elim (cases_Bool (is_some (ps parent))) [ inl live ↦ rw (own, live) (rw own refl) | inr dead ↦ rw (own, dead) refl ]
+  | inr other ↦ elim (cases_Bool (is_some (ps parent))) [ inl live ↦ rw (other, live) (rw other refl) | inr dead ↦ rw (other, dead) refl ]
+]
 
 child_now : (ps : ℕ → Option Process) (pid : ℕ) (held : Option ProcRec) → ended_by (updated ps pid None) held ≡ unless_child_of pid (ended_by ps held)
 child_now ps pid (Some process) = child_by ps pid process.parent process.status
@@ -181,8 +189,8 @@ child_in r slot process status q ps new None are is there = refl
 child_in r slot process status q ps new (Some place) are is there =
     let ended : is_ended_as q (r.procs place) ≡ true = least_passes (λ k. is_ended_as q (r.procs k)) 0 16 place there in
     let apart : place ≡ slot → ⊥ = λ same.
-        let live : is_ended_as q (r.procs place) ≡ false = subst (λ (j : ℕ). is_ended_as q (r.procs j) ≡ false) (sym same) (ap (is_ended_as q) is.there ∙ live_not_ended process q is.live) in
-        cc (sym ended ∙ live) in
+    let live : is_ended_as q (r.procs place) ≡ false = subst (λ (j : ℕ). is_ended_as q (r.procs j) ≡ false) (sym same) (ap (is_ended_as q) is.there ∙ live_not_ended process q is.live) in
+    cc (sym ended ∙ live) in
     let held : new.procs place ≡ r.procs place = ap (λ (f : ℕ → Option ProcRec). f place) are ∙ set_other r.procs slot (Some (ended_process process status)) place apart in
     ap (ended_by (updated ps process.pid None)) held ∙ child_now ps process.pid (r.procs place)
 
@@ -192,54 +200,56 @@ own_child false parent status = refl
 
 other_test : (q pid : ℕ) → (q ≡ pid → ⊥) → (q == pid) ≡ false
 other_test q pid apart = elim (cases_Bool (q == pid)) [
-    inl same ↦ let equal : q ≡ pid = grind (arith, nat_tests) in absurd (apart equal)
-  | inr other ↦ other ]
+  | inl same ↦ let equal : q ≡ pid = grind (arith, nat_tests) in absurd (apart equal)
+  | inr other ↦ other
+]
 
 -- the ended children now
 children_now : (r : Records) (head : HeadRec) (slot : ℕ) (process : ProcRec) (status trap : ℕ) (ps : ℕ → Option Process) (q : ℕ) → AreNumbered r → IsIn r slot process
     → ended_of (ended_records r head slot process status trap) (updated ps process.pid None) q
-      ≡ (if q == process.pid then child_of (is_some (updated ps process.pid None process.parent)) process.parent status else unless_child_of process.pid (ended_of r ps q))
+    ≡ (if q == process.pid then child_of (is_some (updated ps process.pid None process.parent)) process.parent status else unless_child_of process.pid (ended_of r ps q))
 unfolding ended_of
 children_now r head slot process status trap ps q numbered is =
     let new = ended_records r head slot process status trap in
     elim (same_or_not q process.pid) [
-      inl same ↦
-        let found : least_from (λ k. is_ended_as process.pid (new.procs k)) 0 16 ≡ Some slot = place_now r slot process status numbered is in
-        let at_slot : new.procs slot ≡ Some (ended_process process status) = set_here r.procs slot (Some (ended_process process status)) in
-        let here : ended_in new (updated ps process.pid None) (least_from (λ k. is_ended_as process.pid (new.procs k)) 0 16)
-                ≡ child_of (is_some (updated ps process.pid None process.parent)) process.parent status =
-            ap (ended_in new (updated ps process.pid None)) found ∙ (ap (ended_by (updated ps process.pid None)) at_slot ∙ own_child (is_some (updated ps process.pid None process.parent)) process.parent status) in
-        let test : (q == process.pid) ≡ true = grind (arith, nat_tests, same) in
-        rw test (subst (λ (k : ℕ). ended_in new (updated ps process.pid None) (least_from (λ j. is_ended_as k (new.procs j)) 0 16)
-            ≡ child_of (is_some (updated ps process.pid None process.parent)) process.parent status) (sym same) here)
-    | inr apart ↦
-        let tests : (λ k. is_ended_as q (new.procs k)) ≡ (λ k. is_ended_as q (r.procs k)) = λ i k. test_same r slot process status q is apart k i in
-        let found : least_from (λ k. is_ended_as q (new.procs k)) 0 16 ≡ least_from (λ k. is_ended_as q (r.procs k)) 0 16 = ap (λ (t : ℕ → Bool). least_from t 0 16) tests in
-        let test : (q == process.pid) ≡ false = other_test q process.pid apart in
-        rw test (ap (ended_in new (updated ps process.pid None)) found
-            ∙ child_in r slot process status q ps new (least_from (λ k. is_ended_as q (r.procs k)) 0 16) refl is refl) ]
+      | inl same ↦
+          let found : least_from (λ k. is_ended_as process.pid (new.procs k)) 0 16 ≡ Some slot = place_now r slot process status numbered is in
+          let at_slot : new.procs slot ≡ Some (ended_process process status) = set_here r.procs slot (Some (ended_process process status)) in
+          let here : ended_in new (updated ps process.pid None) (least_from (λ k. is_ended_as process.pid (new.procs k)) 0 16)
+          ≡ child_of (is_some (updated ps process.pid None process.parent)) process.parent status =
+          ap (ended_in new (updated ps process.pid None)) found ∙ (ap (ended_by (updated ps process.pid None)) at_slot ∙ own_child (is_some (updated ps process.pid None process.parent)) process.parent status) in
+          let test : (q == process.pid) ≡ true = grind (arith, nat_tests, same) in
+          rw test (subst (λ (k : ℕ). ended_in new (updated ps process.pid None) (least_from (λ j. is_ended_as k (new.procs j)) 0 16)
+          ≡ child_of (is_some (updated ps process.pid None process.parent)) process.parent status) (sym same) here)
+      | inr apart ↦
+          let tests : (λ k. is_ended_as q (new.procs k)) ≡ (λ k. is_ended_as q (r.procs k)) = λ i k. test_same r slot process status q is apart k i in
+          let found : least_from (λ k. is_ended_as q (new.procs k)) 0 16 ≡ least_from (λ k. is_ended_as q (r.procs k)) 0 16 = ap (λ (t : ℕ → Bool). least_from t 0 16) tests in
+          let test : (q == process.pid) ≡ false = other_test q process.pid apart in
+          rw test (ap (ended_in new (updated ps process.pid None)) found
+          ∙ child_in r slot process status q ps new (least_from (λ k. is_ended_as q (r.procs k)) 0 16) refl is refl)
+    ]
 
 -- the records of the ending, as the state of the Unix
 pub ended_unix : (r : Records) (head : HeadRec) (slot : ℕ) (process : ProcRec) (status trap : ℕ) (words : WordMap) (tapes : ℕ → List ℕ) (context : Context) (steps traps : ℕ) (p : Process)
     → AreSound r → r.head ≡ Some head → IsIn r slot process → IsStatus status → IsOf context process.pid
     → (unix_of r words tapes context steps traps).processes process.pid ≡ Some p
     → unix_of (ended_records r head slot process status trap) words tapes InKernel (steps + 1) (traps + 1)
-      ≡ ended_as (trapped (unix_of r words tapes context steps traps) process.pid) process.pid p status
+    ≡ ended_as (trapped (unix_of r words tapes context steps traps) process.pid) process.pid p status
 unfolding unix_of trapped ended_as processes_of
 ended_unix r head slot process status trap words tapes context steps traps p sound is_head is word of held =
     let new = ended_records r head slot process status trap in
     let ps = processes_of r words context in
     let processes : process_at new words ≡ updated ps process.pid None =
-        λ i q. processes_now r head slot process status trap words context q sound is_head is word of i in
+    λ i q. processes_now r head slot process status trap words context q sound is_head is word of i in
     let parent : p.parent ≡ process.parent = parent_is r words context slot process p sound is of held in
     let next : head.next ≡ next_by r.head = sym (ap next_by is_head) in
     let children : ended_of new (process_at new words)
-            ≡ (λ q. if q == process.pid then child_of (is_some (updated ps process.pid None p.parent)) p.parent status else unless_child_of process.pid (ended_of r ps q)) =
-        ap (ended_of new) processes ∙ (λ i q. (children_now r head slot process status trap ps q sound.numbered is
-            ∙ ap (λ (own : ℕ). if q == process.pid then child_of (is_some (updated ps process.pid None own)) own status else unless_child_of process.pid (ended_of r ps q)) (sym parent)) i) in
+    ≡ (λ q. if q == process.pid then child_of (is_some (updated ps process.pid None p.parent)) p.parent status else unless_child_of process.pid (ended_of r ps q)) =
+    ap (ended_of new) processes ∙ (λ i q. (children_now r head slot process status trap ps q sound.numbered is
+    ∙ ap (λ (own : ℕ). if q == process.pid then child_of (is_some (updated ps process.pid None own)) own status else unless_child_of process.pid (ended_of r ps q)) (sym parent)) i) in
     let ds = λ (number : ℕ). description_by (r.descs number) in
     let descriptions : in_use (process_at new words) ds ≡ in_use (updated ps process.pid None) (in_use ps ds) =
-        ap (λ (live : ℕ → Option Process). in_use live ds) processes ∙ (λ i number. in_use_now ps process.pid ds number i) in
+    ap (λ (live : ℕ → Option Process). in_use live ds) processes ∙ (λ i number. in_use_now ps process.pid ds number i) in
     λ i. record {
       processes = processes i;
       ended = children i;

@@ -1,25 +1,17 @@
 -- Records in which a process has ended: they are sound as before.
-use Rattle.std.proofs.Common.{◌≡◌, ◌≢◌, ◌⊎◌, ◌==◌, ◌&&◌, ◌||◌, ℕ, ◌+◌, ◌-◌, ◌<◌, ◌≤◌, Bool, true, false, nat_lt, not, Option, Some, None, IfSome, is_some, inl, inr, refl, sym, ap, subst, ◌∙◌, arith}
-use Rattle.std.proofs.lemmas.Bool.{cases_Bool}
+use Rattle.std.proofs.Common.{◌≡◌, ℕ, true, Option, Some, None, inl, inr, refl, sym, subst, ◌∙◌, arith}
 use Rattle.std.proofs.lemmas.Bool.Decides.{nat_tests}
-use Rattle.std.proofs.lemmas.Grind.{common_steps}
 use Rattle.ow_base.specs.Words.{updated}
 use Rattle.record_layouts.specs.declared.head.HeadRec.{HeadRec}
 use Rattle.record_layouts.specs.declared.proc.ProcRec.{ProcRec}
-use Rattle.record_layouts.specs.declared.sig.SigRec.{SigRec}
 use Rattle.record_layouts.specs.declared.exit.ExitRec.{ExitRec}
-use Rattle.record_layouts.specs.Held.{Records, AreComplete, AreValues, with_items}
+use Rattle.record_layouts.specs.Held.{Records, with_items}
 use Rattle.record_layouts.specs.Pages.{is_live}
-use Rattle.record_layouts.specs.Head.{FitsHead}
-use Rattle.record_layouts.specs.Proc.{FitsProc}
-use Rattle.record_layouts.specs.Exit.{FitsExit}
-use Rattle.record_layouts.specs.Spelling.{IsStatus}
-use Rattle.record_layouts.specs.Decode.{slot_by, next_by}
-use Rattle.record_layouts.specs.Sound.{IsIn, AreNumbered, AreInCalls, AreMapped, AreSound, is_used}
+use Rattle.record_layouts.specs.Decode.{slot_by}
+use Rattle.record_layouts.specs.Sound.{IsIn, AreNumbered, is_used}
 use Rattle.process_table.specs.Patches.{ended_items, ended_process, ended_exit}
-use Rattle.process_table.proofs.Ended.{ended_fits}
 use Rattle.process_table.proofs.Regions.{changed}
-use Rattle.process_table.proofs.Kept.{set_here, set_other, same_or_not, Was, AllWere, kin_itself, calls_stay, mapped_stay}
+use Rattle.process_table.proofs.Kept.{set_here, set_other, same_or_not, AllWere, kin_itself}
 
 -- the head once a trap is done
 abbrev pub served : HeadRec → (trap pid : ℕ) → HeadRec
@@ -58,17 +50,18 @@ other_there r slot process place other numbered is apart there = record {
 pub others : (r : Records) (head : HeadRec) (slot : ℕ) (process : ProcRec) (status trap : ℕ) (place : ℕ) (other : ProcRec)
     → AreNumbered r → IsIn r slot process → IsIn (ended_records r head slot process status trap) place other → IsOther r slot process place other
 others r head slot process status trap place other numbered is now = elim (same_or_not place slot) [
-    inl same ↦
+  | inl same ↦
       let held : updated r.procs slot (Some (ended_process process status)) place ≡ Some other = now.there in
       let ended : Some (ended_process process status) ≡ Some other =
-          sym (set_here r.procs slot (Some (ended_process process status))) ∙ subst (λ (k : ℕ). updated r.procs slot (Some (ended_process process status)) k ≡ Some other) same held in
+      sym (set_here r.procs slot (Some (ended_process process status))) ∙ subst (λ (k : ℕ). updated r.procs slot (Some (ended_process process status)) k ≡ Some other) same held in
       let equal : ended_process process status ≡ other = cc in
       let live : is_live (ended_process process status) ≡ true = rw (← equal) at now.live in
       absurd (grind (arith, live))
   | inr apart ↦
       let there : r.procs place ≡ Some other = sym (set_other r.procs slot (Some (ended_process process status)) place apart) ∙ now.there in
       let before : IsIn r place other = record { within = now.within; there = there; live = now.live } in
-      other_there r slot process place other numbered is apart before ]
+      other_there r slot process place other numbered is apart before
+]
 
 pub all_were : (r : Records) (head : HeadRec) (slot : ℕ) (process : ProcRec) (status trap : ℕ) → AreNumbered r → IsIn r slot process
     → AllWere r (Some (served head trap process.pid)) (updated r.procs slot (Some (ended_process process status))) r.sigs (updated r.exits process.pid (Some (ended_exit status)))
@@ -87,12 +80,13 @@ used_by None slot live = cc
 pub slot_before : (r : Records) (pid : ℕ) (status : ℕ) (q s : ℕ) → slot_by (updated r.exits pid (Some (ended_exit status)) q) ≡ Some s
     → (q ≡ pid → ⊥) × (slot_by (r.exits q) ≡ Some s)
 slot_before r pid status q s now = elim (same_or_not q pid) [
-    inl same ↦
+  | inl same ↦
       let here : updated r.exits pid (Some (ended_exit status)) q ≡ Some (ended_exit status) =
-          subst (λ (k : ℕ). updated r.exits pid (Some (ended_exit status)) k ≡ Some (ended_exit status)) (sym same) (set_here r.exits pid (Some (ended_exit status))) in
+      subst (λ (k : ℕ). updated r.exits pid (Some (ended_exit status)) k ≡ Some (ended_exit status)) (sym same) (set_here r.exits pid (Some (ended_exit status))) in
       let none : slot_by (Some (ended_exit status)) ≡ Some s = subst (λ (e : Option ExitRec). slot_by e ≡ Some s) here now in
       absurd (cc none)
-  | inr apart ↦ (apart, subst (λ (e : Option ExitRec). slot_by e ≡ Some s) (set_other r.exits pid (Some (ended_exit status)) q apart) now) ]
+  | inr apart ↦ (apart, subst (λ (e : Option ExitRec). slot_by e ≡ Some s) (set_other r.exits pid (Some (ended_exit status)) q apart) now)
+]
 
 pub slot_still : (r : Records) (pid : ℕ) (status : ℕ) (q s : ℕ) → (q ≡ pid → ⊥) → slot_by (r.exits q) ≡ Some s
     → slot_by (updated r.exits pid (Some (ended_exit status)) q) ≡ Some s

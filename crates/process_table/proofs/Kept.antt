@@ -1,8 +1,7 @@
 -- What is sound of records stays so where live processes keep their pids, parents, pages and descriptors.
-use Rattle.std.proofs.Common.{◌≡◌, ◌≢◌, ◌⊎◌, ◌==◌, ◌&&◌, ◌||◌, ℕ, ◌+◌, ◌-◌, ◌*◌, ◌<◌, ◌≤◌, Bool, true, false, Option, Some, None, IfSome, is_some, slice_index, inl, inr, refl, sym, ap, ◌∙◌, arith}
+use Rattle.std.proofs.Common.{◌≡◌, ◌≢◌, ◌⊎◌, ◌==◌, ℕ, ◌+◌, ◌*◌, true, false, Option, inl, inr, refl, sym, ◌∙◌, arith}
 use Rattle.std.proofs.lemmas.Bool.{cases_Bool}
 use Rattle.std.proofs.lemmas.Bool.Decides.{nat_tests}
-use Rattle.std.proofs.lemmas.Grind.{common_steps}
 use Rattle.ow_base.specs.Words.{updated}
 use Rattle.record_layouts.specs.declared.head.HeadRec.{HeadRec}
 use Rattle.record_layouts.specs.declared.proc.ProcRec.{ProcRec}
@@ -10,8 +9,8 @@ use Rattle.record_layouts.specs.declared.sig.SigRec.{SigRec}
 use Rattle.record_layouts.specs.declared.desc.DescRec.{DescRec}
 use Rattle.record_layouts.specs.declared.exit.ExitRec.{ExitRec}
 use Rattle.record_layouts.specs.Held.{Records}
-use Rattle.record_layouts.specs.Pages.{is_live, is_mapped, region_of, high_place}
-use Rattle.record_layouts.specs.Sound.{IsIn, AreNumbered, AreInCalls, IsInCall, IsTransfer, AreMapped, AreSound, is_table_place}
+use Rattle.record_layouts.specs.Pages.{is_live, high_place}
+use Rattle.record_layouts.specs.Sound.{IsIn, AreInCalls, IsInCall, IsTransfer, AreMapped, is_table_place}
 use Rattle.process_table.proofs.Regions.{changed, SameRegions, region_same, mapped_stays, mapped_same}
 
 -- a function that is changed at one place
@@ -20,8 +19,9 @@ set_here f place value = let same : (place == place) ≡ true = grind (arith, na
 
 pub set_other : {V : Type 0} (f : ℕ → V) (place : ℕ) (value : V) (k : ℕ) → (k ≡ place → ⊥) → updated f place value k ≡ f k
 set_other f place value k differs = elim (cases_Bool (k == place)) [
-    inl same ↦ let equal : k ≡ place = grind (arith, nat_tests) in absurd (differs equal)
-  | inr other ↦ rw other refl ]
+  | inl same ↦ let equal : k ≡ place = grind (arith, nat_tests) in absurd (differs equal)
+  | inr other ↦ rw other refl
+]
 
 nat_differs : (k place : ℕ) → (k == place) ≡ false → k ≢ place
 nat_differs k place other = grind (arith, nat_tests)
@@ -29,8 +29,9 @@ nat_differs k place other = grind (arith, nat_tests)
 -- a number is another or not
 pub same_or_not : (k place : ℕ) → (k ≡ place) ⊎ (k ≡ place → ⊥)
 same_or_not k place = elim (cases_Bool (k == place)) [
-    inl same ↦ inl (grind (arith, nat_tests))
-  | inr other ↦ inr (λ equal. omega (arith, equal, nat_differs k place other)) ]
+  | inl same ↦ inl (grind (arith, nat_tests))
+  | inr other ↦ inr (λ equal. omega (arith, equal, nat_differs k place other))
+]
 
 -- a process is what another was, but for registers, saved contexts, its flags, and the call that it is not in any more
 pub record IsKin (old new : ProcRec) : Type 0 where
@@ -59,16 +60,23 @@ pub record AllWere (r : Records) (head : Option HeadRec) (procs : ℕ → Option
 transfer_stays : (r : Records) (head : Option HeadRec) (procs : ℕ → Option ProcRec) (sigs : ℕ → Option SigRec) (exits : ℕ → Option ExitRec)
     (process : ProcRec) (mode : ℕ) (description : DescRec) → IsTransfer r process mode description → IsTransfer (changed r head procs sigs exits) process mode description
 transfer_stays r head procs sigs exits process mode description is = record {
-  descriptor = is.descriptor; named = is.named; there = is.there; allowed = is.allowed; count = is.count; left = is.left;
+  descriptor = is.descriptor;
+  named = is.named;
+  there = is.there;
+  allowed = is.allowed;
+  count = is.count;
+  left = is.left;
 }
 
 in_call_stays : (r : Records) (head : Option HeadRec) (procs : ℕ → Option ProcRec) (sigs : ℕ → Option SigRec) (exits : ℕ → Option ExitRec)
     (process : ProcRec) → IsInCall r process → IsInCall (changed r head procs sigs exits) process
 in_call_stays r head procs sigs exits process is = elim is [
-    inl write ↦ inl (write.0, (write.1.0, transfer_stays r head procs sigs exits process 2 write.1.0 write.1.1))
+  | inl write ↦ inl (write.0, (write.1.0, transfer_stays r head procs sigs exits process 2 write.1.0 write.1.1))
   | inr rest ↦ inr (elim rest [
-    inl read ↦ inl (read.0, read.1, (read.2.0, transfer_stays r head procs sigs exits process 1 read.2.0 read.2.1, read.2.2))
-  | inr wait ↦ inr wait ]) ]
+    | inl read ↦ inl (read.0, read.1, (read.2.0, transfer_stays r head procs sigs exits process 1 read.2.0 read.2.1, read.2.2))
+    | inr wait ↦ inr wait
+  ])
+]
 
 pub calls_stay : (r : Records) (head : Option HeadRec) (procs : ℕ → Option ProcRec) (sigs : ℕ → Option SigRec) (exits : ℕ → Option ExitRec)
     → AllWere r head procs sigs exits → AreInCalls r → AreInCalls (changed r head procs sigs exits)

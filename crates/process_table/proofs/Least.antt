@@ -1,7 +1,6 @@
 -- The least number that passes a test, and whether there is one.
-use Rattle.std.proofs.Common.{◌≡◌, ℕ, zero, suc, ◌+◌, ◌-◌, ◌<◌, ◌≤◌, Bool, true, false, ◌||◌, Option, Some, None, IfSome, IfNone, inl, inr, refl, sym, ap, ◌∙◌, arith}
+use Rattle.std.proofs.Common.{◌≡◌, ℕ, zero, suc, ◌+◌, ◌<◌, ◌≤◌, Bool, true, false, Option, Some, None, IfSome, IfNone, inl, inr, refl, sym, ap, arith}
 use Rattle.std.proofs.lemmas.Bool.{cases_Bool}
-use Rattle.std.proofs.lemmas.Grind.{common_steps}
 use Rattle.record_layouts.specs.Choice.{least_from, is_any}
 use Rattle.process_table.specs.Least.{IsLeast, NonePasses}
 
@@ -19,11 +18,12 @@ pub least_found : (test : ℕ → Bool) (first count end n : ℕ) → end ≡ fi
 unfolding least_from
 least_found test first zero end n sum is = absurd (omega (arith, is.from, is.to))
 least_found test first (suc count) end n sum is = elim (cases_Bool (test first)) [
-    inl passes ↦ let same : first ≡ n = grind (arith, is.below.none, is.from) in rw passes (ap Some same)
-    | inr fails ↦
-        let later : first + 1 ≤ n = grind (arith, is.from, is.passes) in
-        let next : IsLeast test (first + 1) end n = record { from = later; to = is.to; passes = is.passes; below = behind test first n is.below } in
-        rw fails (least_found test (first + 1) count end n (omega arith) next) ]
+  | inl passes ↦ let same : first ≡ n = grind (arith, is.below.none, is.from) in rw passes (ap Some same)
+  | inr fails ↦
+      let later : first + 1 ≤ n = grind (arith, is.from, is.passes) in
+      let next : IsLeast test (first + 1) end n = record { from = later; to = is.to; passes = is.passes; below = behind test first n is.below } in
+      rw fails (least_found test (first + 1) count end n (omega arith) next)
+]
 
 pub any_none : (test : ℕ → Bool) (first count end : ℕ) → end ≡ first + count → NonePasses test first end → is_any test first count ≡ false
 unfolding is_any
@@ -36,10 +36,11 @@ pub any_found : (test : ℕ → Bool) (first count end n : ℕ) → end ≡ firs
 unfolding is_any
 any_found test first zero end n sum from to passes = absurd (omega arith)
 any_found test first (suc count) end n sum from to passes = elim (cases_Bool (test first)) [
-    inl here ↦ rw here refl
-    | inr fails ↦
-        let later : first + 1 ≤ n = grind (arith) in
-        rw fails (any_found test (first + 1) count end n (omega arith) later to passes) ]
+  | inl here ↦ rw here refl
+  | inr fails ↦
+      let later : first + 1 ≤ n = grind (arith) in
+      rw fails (any_found test (first + 1) count end n (omega arith) later to passes)
+]
 
 -- the number that passes
 pub record Passing (test : ℕ → Bool) (first end : ℕ) : Type 0 where
@@ -52,10 +53,11 @@ pub any_passing : (test : ℕ → Bool) (first count end : ℕ) → end ≡ firs
 unfolding is_any
 any_passing test first zero end sum any = cc
 any_passing test first (suc count) end sum any = elim (cases_Bool (test first)) [
-    inl here ↦ record { number = first; from = omega arith; to = omega arith; passes = here }
-    | inr fails ↦
-        let found : Passing test (first + 1) end = any_passing test (first + 1) count end (omega arith) (rw fails at any) in
-        record { number = found.number; from = omega (arith, found.from); to = found.to; passes = found.passes } ]
+  | inl here ↦ record { number = first; from = omega arith; to = omega arith; passes = here }
+  | inr fails ↦
+      let found : Passing test (first + 1) end = any_passing test (first + 1) count end (omega arith) (rw fails at any) in
+      record { number = found.number; from = omega (arith, found.from); to = found.to; passes = found.passes }
+]
 
 -- the least number, found or not, is that of the recursion
 pub least_by : (test : ℕ → Bool) (first count : ℕ) (result : Option ℕ) → IfSome result (IsLeast test first (first + count))
@@ -68,14 +70,16 @@ pub least_passes : (test : ℕ → Bool) (first count n : ℕ) → least_from te
 unfolding least_from
 least_passes test first zero n found = cc
 least_passes test first (suc count) n found = elim (cases_Bool (test first)) [
-    inl here ↦ let same : first ≡ n = cc (rw here at found) in rw (← same) here
-  | inr fails ↦ least_passes test (first + 1) count n (rw fails at found) ]
+  | inl here ↦ let same : first ≡ n = cc (rw here at found) in rw (← same) here
+  | inr fails ↦ least_passes test (first + 1) count n (rw fails at found)
+]
 
 pub least_within : (test : ℕ → Bool) (first count n : ℕ) → least_from test first count ≡ Some n → (first ≤ n) × (n < first + count)
 unfolding least_from
 least_within test first zero n found = absurd (cc found)
 least_within test first (suc count) n found = elim (cases_Bool (test first)) [
-    inl here ↦ let same : first ≡ n = cc (rw here at found) in (omega (arith, same), omega (arith, same))
+  | inl here ↦ let same : first ≡ n = cc (rw here at found) in (omega (arith, same), omega (arith, same))
   | inr fails ↦
       let later = least_within test (first + 1) count n (rw fails at found) in
-      (omega (arith, later.0), omega (arith, later.1)) ]
+      (omega (arith, later.0), omega (arith, later.1))
+]

@@ -1,7 +1,6 @@
 -- The pages of a process are a matter of its regions, of tables and of the words that name owners.
-use Rattle.std.proofs.Common.{◌≡◌, ◌==◌, ◌&&◌, ℕ, zero, suc, ◌+◌, ◌-◌, ◌*◌, ◌/◌, ◌%◌, ◌<◌, ◌≤◌, Bool, true, false, Option, Some, None, is_some, inl, inr, refl, sym, ap, ◌∙◌, arith}
+use Rattle.std.proofs.Common.{◌≡◌, ◌&&◌, ℕ, zero, suc, ◌+◌, ◌/◌, ◌%◌, Bool, true, Option, is_some, refl, ap, ◌∙◌, arith}
 use Rattle.ow_base.specs.Sv32.{WordMap}
-use Rattle.ow_base.specs.Pages.{Pages}
 use Rattle.ow_base.specs.declared.machine.Rights.{Rights}
 use Rattle.record_layouts.specs.declared.head.HeadRec.{HeadRec}
 use Rattle.record_layouts.specs.declared.proc.ProcRec.{ProcRec}
@@ -25,7 +24,7 @@ unfolding have_frames
 frames_stay r head procs sigs exits slot process first zero = refl
 frames_stay r head procs sigs exits slot process first (suc count) =
     rw (frame_stays r head procs sigs exits slot process first) (ap (λ (rest : Bool). is_some (frame_of r slot process first) && rest)
-        (frames_stay r head procs sigs exits slot process (first + 1) count))
+    (frames_stay r head procs sigs exits slot process (first + 1) count))
 
 pub mapped_stays : (r : Records) (head : Option HeadRec) (procs : ℕ → Option ProcRec) (sigs : ℕ → Option SigRec) (exits : ℕ → Option ExitRec) (slot : ℕ) (process : ProcRec)
     → is_mapped (changed r head procs sigs exits) slot process ≡ is_mapped r slot process
@@ -64,9 +63,9 @@ pub mapped_same : (r : Records) (slot : ℕ) (one other : ProcRec) → SameRegio
 unfolding is_mapped
 mapped_same r slot one other same =
     let pages : one.code_pages + (one.data_pages + heap_pages one) ≡ other.code_pages + (other.data_pages + heap_pages other) =
-        omega (arith, same.code, same.values, same.brk) in
+    omega (arith, same.code, same.values, same.brk) in
     let low : have_frames r slot one 16 (one.code_pages + (one.data_pages + heap_pages one)) ≡ have_frames r slot other 16 (other.code_pages + (other.data_pages + heap_pages other)) =
-        ap (λ (n : ℕ). have_frames r slot one 16 n) pages ∙ frames_same r slot one other same 16 (other.code_pages + (other.data_pages + heap_pages other)) in
+    ap (λ (n : ℕ). have_frames r slot one 16 n) pages ∙ frames_same r slot one other same 16 (other.code_pages + (other.data_pages + heap_pages other)) in
     let high : have_frames r slot one 0x7fffc 4 ≡ have_frames r slot other 0x7fffc 4 = frames_same r slot one other same 0x7fffc 4 in
     rw low (rw high refl)
 

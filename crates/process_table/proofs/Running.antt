@@ -1,8 +1,7 @@
 -- Which processes can run, by records and in the Unix.
-use Rattle.std.proofs.Common.{◌≡◌, ◌≢◌, ◌⊎◌, ◌==◌, ◌&&◌, ◌||◌, if◌then◌else◌, ℕ, zero, suc, ◌+◌, ◌-◌, ◌%◌, ◌<◌, ◌≤◌, Bool, true, false, nat_lt, not, List, [], ◌∷◌, map, Option, Some, None, IfSome, is_some, slice_index, slice_get, inl, inr, refl, sym, ap, subst, ◌∙◌, arith}
+use Rattle.std.proofs.Common.{◌≡◌, ◌≢◌, ◌⊎◌, ◌==◌, ◌||◌, ℕ, zero, suc, ◌+◌, ◌-◌, ◌%◌, ◌<◌, ◌≤◌, Bool, true, false, not, List, [], ◌∷◌, map, Option, Some, None, IfSome, is_some, slice_index, slice_get, inl, inr, refl, sym, ap, subst, ◌∙◌, arith}
 use Rattle.std.proofs.lemmas.Bool.{cases_Bool}
 use Rattle.std.proofs.lemmas.Bool.Decides.{nat_tests}
-use Rattle.std.proofs.lemmas.Grind.{common_steps}
 use Rattle.ow_base.specs.Sv32.{WordMap}
 use Rattle.ow_base.specs.UserStep.{register}
 use Rattle.ow_base.specs.declared.machine.Now.{Now}
@@ -10,18 +9,18 @@ use Rattle.record_layouts.specs.declared.proc.ProcRec.{ProcRec}
 use Rattle.record_layouts.specs.declared.sig.SigRec.{SigRec}
 use Rattle.record_layouts.specs.declared.desc.DescRec.{DescRec}
 use Rattle.record_layouts.specs.declared.term.TermRec.{TermRec}
-use Rattle.record_layouts.specs.Unix.{Unix, Process, EndedChild, Description, Object, OnFile, OnTty, Terminal, CallState, Out, In, in_use, is_named, is_named_by, is_among, is_this}
-use Rattle.record_layouts.specs.Calls.{argument, description_of, flat}
-use Rattle.record_layouts.specs.Choice.{Keys, least_from, is_any, deliverable, is_child_of, is_ended_child_of, has_ended_child, has_child, read_from, read_goes_on, goes_on, can_run, is_runnable}
+use Rattle.record_layouts.specs.Unix.{Process, in_use, is_named, is_named_by, is_among, is_this}
+use Rattle.record_layouts.specs.Calls.{description_of}
+use Rattle.record_layouts.specs.Choice.{least_from, is_any, deliverable, is_child_of, is_ended_child_of, has_ended_child, has_child, read_goes_on, goes_on}
 use Rattle.record_layouts.specs.Held.{Records}
 use Rattle.record_layouts.specs.Pages.{is_live}
 use Rattle.record_layouts.specs.Desc.{FitsDesc}
 use Rattle.record_layouts.specs.Proc.{FitsProc, FitsEnded}
-use Rattle.record_layouts.specs.Decode.{InKernel, descriptor_of, call_of, is_pending, process_of, process_at, processes_of, is_ended_as, ended_by, ended_in, ended_of, object_of, description_by, terminal_by, unix_of}
-use Rattle.record_layouts.specs.Sound.{IsIn, IsTransfer, IsInCall, AreNumbered, AreSound}
+use Rattle.record_layouts.specs.Decode.{InKernel, descriptor_of, is_pending, process_of, process_at, processes_of, is_ended_as, ended_by, ended_in, ended_of, description_by, unix_of}
+use Rattle.record_layouts.specs.Sound.{IsIn, IsTransfer, AreNumbered, AreSound}
 use Rattle.process_table.specs.Slots.{has_such, is_live_child, is_ended_child}
-use Rattle.process_table.specs.Choosing.{keys_of, next_signal, signal_by, tty_goes_on, read_by, named_by, description_in, wait_goes_on, call_goes_on, is_runnable_in}
-use Rattle.process_table.specs.Least.{IsLeast, NonePasses}
+use Rattle.process_table.specs.Choosing.{keys_of, next_signal, signal_by, read_by, named_by, description_in, wait_goes_on, call_goes_on}
+use Rattle.process_table.specs.Least.{NonePasses}
 use Rattle.process_table.proofs.Least.{least_found, least_passes, least_within, any_found, any_passing, Passing}
 use Rattle.process_table.proofs.Holding.{such_found, such_passing}
 use Rattle.process_table.proofs.EndedUnix.{ended_there}
@@ -38,18 +37,21 @@ pub signal_is : (r : Records) (words : WordMap) (slot : ℕ) (process : ProcRec)
     → deliverable (process_of r words slot process) ≡ signal_by process (r.sigs slot)
 unfolding deliverable process_of next_signal
 signal_is r words slot process signals there = rw there (elim (cases_Bool (is_pending (Some signals) 9)) [
-    inl kill ↦ rw kill refl
-  | inr other ↦ rw other (elim (cases_Bool (process.flags % 2 == 1)) [ inl runs ↦ rw runs refl | inr quiet ↦ rw quiet refl ]) ])
+  | inl kill ↦ rw kill refl
+  | inr other ↦ rw other (elim (cases_Bool (process.flags % 2 == 1)) [ inl runs ↦ rw runs refl | inr quiet ↦ rw quiet refl ])
+])
 
 descriptor_is : (word : ℕ) → word ≢ 0 → descriptor_of word ≡ Some (word - 1)
 descriptor_is word named = elim (cases_Bool (word == 0)) [
-    inl none ↦ let equal : word ≡ 0 = grind (arith, nat_tests) in absurd (named equal)
-  | inr some ↦ rw some refl ]
+  | inl none ↦ let equal : word ≡ 0 = grind (arith, nat_tests) in absurd (named equal)
+  | inr some ↦ rw some refl
+]
 
 zero_not : (word : ℕ) → word ≢ 0 → (word == 0) ≡ false
 zero_not word named = elim (cases_Bool (word == 0)) [
-    inl none ↦ let equal : word ≡ 0 = grind (arith, nat_tests) in absurd (named equal)
-  | inr some ↦ some ]
+  | inl none ↦ let equal : word ≡ 0 = grind (arith, nat_tests) in absurd (named equal)
+  | inr some ↦ some
+]
 
 or_true : (a b : Bool) → b ≡ true → (a || b) ≡ true
 or_true true b there = refl
@@ -74,10 +76,11 @@ named_there : (ps : ℕ → Option Process) (number first count k end : ℕ) →
 unfolding is_named
 named_there ps number first zero k end sum from to named = absurd (omega arith)
 named_there ps number first (suc count) k end sum from to named = elim (cases_Bool (is_named_by number (ps first))) [
-    inl here ↦ rw here refl
+  | inl here ↦ rw here refl
   | inr missing ↦
       let later : first + 1 ≤ k = grind arith in
-      rw missing (named_there ps number (first + 1) count k end (omega arith) later to named) ]
+      rw missing (named_there ps number (first + 1) count k end (omega arith) later to named)
+]
 
 -- a terminal that is open to a read
 record IsTty (d : DescRec) : Type 0 where
@@ -88,12 +91,14 @@ record IsTty (d : DescRec) : Type 0 where
 
 is_tty : (r : Records) (process : ProcRec) (d : DescRec) → FitsDesc d → IsTransfer r process 1 d → d.object ≢ 1 → IsTty d
 is_tty r process d fits transfer no_file = elim fits [
-    inl closed ↦ absurd (elim transfer.allowed [ inl one ↦ omega (arith, one, closed.mode) | inr three ↦ omega (arith, three, closed.mode) ])
+  | inl closed ↦ absurd (elim transfer.allowed [ inl one ↦ omega (arith, one, closed.mode) | inr three ↦ omega (arith, three, closed.mode) ])
   | inr opened ↦ elim opened [
-    inl file ↦ absurd (no_file file.object)
-  | inr tty ↦
-      let object : d.object ≡ 2 = tty.object in
-      record { zero = grind (arith, nat_tests); one = grind (arith, nat_tests); two = grind (arith, nat_tests); index = omega (arith, tty.index) } ] ]
+    | inl file ↦ absurd (no_file file.object)
+    | inr tty ↦
+        let object : d.object ≡ 2 = tty.object in
+        record { zero = grind (arith, nat_tests); one = grind (arith, nat_tests); two = grind (arith, nat_tests); index = omega (arith, tty.index) }
+  ]
+]
 
 -- a record that decodes
 the_record : {V : Type 0} (held : Option V) → is_some held ≡ true → (value : V) × (held ≡ Some value)
@@ -123,7 +128,7 @@ description_is r words tapes steps traps slot process d sound is transfer =
 read_is : (r : Records) (words : WordMap) (tapes : ℕ → List ℕ) (steps traps : ℕ) (now : Now) (slot : ℕ) (process : ProcRec) (d : DescRec) → AreSound r → IsIn r slot process
     → IsTransfer r process 1 d → d.object ≢ 1
     → read_goes_on (keys_of now) (unix_of r words tapes InKernel steps traps) (description_of (unix_of r words tapes InKernel steps traps) (process_of r words slot process) (register process.regs 10))
-      ≡ read_by r now (description_in r process)
+    ≡ read_by r now (description_in r process)
 unfolding description_in
 read_is r words tapes steps traps now slot process d sound is transfer no_file =
     let u = unix_of r words tapes InKernel steps traps in
@@ -139,8 +144,9 @@ read_is r words tapes steps traps now slot process d sound is transfer no_file =
 -- an ended child, by the Unix and by records
 child_record : (ps : ℕ → Option Process) (parent : ℕ) (held : Option ProcRec) (pid : ℕ) → is_ended_child_of parent (ended_by ps held) ≡ true → is_ended_as pid held ≡ true → is_ended_child parent held ≡ true
 child_record ps parent (Some process) pid child ended = elim (cases_Bool (is_some (ps process.parent))) [
-    inl live ↦ let own : (process.parent == parent) ≡ true = rw live at child in grind (arith, nat_tests, own, ended)
-  | inr dead ↦ absurd (cc (rw dead at child)) ]
+  | inl live ↦ let own : (process.parent == parent) ≡ true = rw live at child in grind (arith, nat_tests, own, ended)
+  | inr dead ↦ absurd (cc (rw dead at child))
+]
 child_record ps parent None pid child ended = absurd (cc ended)
 
 child_found : (r : Records) (ps : ℕ → Option Process) (parent pid : ℕ) (found : Option ℕ) → least_from (λ k. is_ended_as pid (r.procs k)) 0 16 ≡ found
@@ -167,12 +173,15 @@ ended_place : (r : Records) (place : ℕ) (process : ProcRec) → AreNumbered r 
     → least_from (λ k. is_ended_as process.pid (r.procs k)) 0 16 ≡ Some place
 ended_place r place process numbered within there state =
     let passes : is_ended_as process.pid (r.procs place) ≡ true = ap (is_ended_as process.pid) there ∙ grind (arith, nat_tests, state) in
-    let below : NonePasses (λ k. is_ended_as process.pid (r.procs k)) 0 place = record { none = λ k from less. elim (cases_Bool (is_ended_as process.pid (r.procs k))) [
-        inl ended ↦
-          let other = ended_there (r.procs k) process.pid ended in
-          let same : k ≡ place = numbered.one_ended k place other.0 process other.1 there other.2 state other.3 in
-          absurd (omega (arith, same, less))
-      | inr none ↦ none ] } in
+    let below : NonePasses (λ k. is_ended_as process.pid (r.procs k)) 0 place = record {
+      none = λ k from less. elim (cases_Bool (is_ended_as process.pid (r.procs k))) [
+        | inl ended ↦
+            let other = ended_there (r.procs k) process.pid ended in
+            let same : k ≡ place = numbered.one_ended k place other.0 process other.1 there other.2 state other.3 in
+            absurd (omega (arith, same, less))
+        | inr none ↦ none
+      ];
+    } in
     least_found (λ k. is_ended_as process.pid (r.procs k)) 0 16 16 place refl (record { from = omega arith; to = within; passes = passes; below = below })
 
 -- a child that has ended, in the Unix and by records
@@ -184,29 +193,30 @@ ended_child_is r words tapes steps traps slot process sound is =
     let place_of = λ (pid : ℕ). least_from (λ k. is_ended_as pid (r.procs k)) 0 16 in
     let test = λ (pid : ℕ). is_ended_child_of process.pid (ended_in r ps (place_of pid)) in
     same_tests (is_any test 1 256) (has_such r (is_ended_child process.pid))
-      (λ any.
-        let passing : Passing test 1 257 = any_passing test 1 256 257 refl any in
-        child_found r ps process.pid passing.number (place_of passing.number) refl passing.passes)
-      (λ such.
-        let passing : Passing (λ k. is_ended_child process.pid (r.procs k)) 0 16 = such_passing r (is_ended_child process.pid) such in
-        let child : Child r process.pid passing.number = ended_child r process.pid passing.number (r.procs passing.number) refl passing.passes in
-        let fits : FitsProc child.process = subst (λ (o : Option ProcRec). IfSome o FitsProc) child.there (sound.values.procs passing.number) in
-        let ended : FitsEnded child.process = fits.ended child.state in
-        let place : place_of child.process.pid ≡ Some passing.number = ended_place r passing.number child.process sound.numbered passing.to child.there child.state in
-        let live : is_some (ps child.process.parent) ≡ true =
-            subst (λ (k : ℕ). is_some (ps k) ≡ true) (sym child.parent_is) (ap is_some (found_in r words slot process sound is)) in
-        let own : (child.process.parent == process.pid) ≡ true = grind (arith, nat_tests, child.parent_is) in
-        let by_record : is_ended_child_of process.pid (ended_by ps (Some child.process)) ≡ true = rw live own in
-        let passes : test child.process.pid ≡ true =
-            ap (λ (o : Option ℕ). is_ended_child_of process.pid (ended_in r ps o)) place ∙ (ap (λ (o : Option ProcRec). is_ended_child_of process.pid (ended_by ps o)) child.there ∙ by_record) in
-        any_found test 1 256 257 child.process.pid refl ended.pid.0 (omega (arith, ended.pid.1)) passes)
+    (λ any.
+    let passing : Passing test 1 257 = any_passing test 1 256 257 refl any in
+    child_found r ps process.pid passing.number (place_of passing.number) refl passing.passes)
+    (λ such.
+    let passing : Passing (λ k. is_ended_child process.pid (r.procs k)) 0 16 = such_passing r (is_ended_child process.pid) such in
+    let child : Child r process.pid passing.number = ended_child r process.pid passing.number (r.procs passing.number) refl passing.passes in
+    let fits : FitsProc child.process = subst (λ (o : Option ProcRec). IfSome o FitsProc) child.there (sound.values.procs passing.number) in
+    let ended : FitsEnded child.process = fits.ended child.state in
+    let place : place_of child.process.pid ≡ Some passing.number = ended_place r passing.number child.process sound.numbered passing.to child.there child.state in
+    let live : is_some (ps child.process.parent) ≡ true =
+    subst (λ (k : ℕ). is_some (ps k) ≡ true) (sym child.parent_is) (ap is_some (found_in r words slot process sound is)) in
+    let own : (child.process.parent == process.pid) ≡ true = grind (arith, nat_tests, child.parent_is) in
+    let by_record : is_ended_child_of process.pid (ended_by ps (Some child.process)) ≡ true = rw live own in
+    let passes : test child.process.pid ≡ true =
+    ap (λ (o : Option ℕ). is_ended_child_of process.pid (ended_in r ps o)) place ∙ (ap (λ (o : Option ProcRec). is_ended_child_of process.pid (ended_by ps o)) child.there ∙ by_record) in
+    any_found test 1 256 257 child.process.pid refl ended.pid.0 (omega (arith, ended.pid.1)) passes)
 
 -- a live child
 live_child : (r : Records) (parent place : ℕ) (held : Option ProcRec) → place < 16 → r.procs place ≡ held → is_live_child parent held ≡ true
     → (process : ProcRec) × (IsIn r place process) × (process.parent ≡ parent)
 live_child r parent place (Some process) within there child = elim (cases_Bool (is_live process)) [
-    inl live ↦ (process, record { within = within; there = there; live = live }, grind (arith, nat_tests, child, live))
-  | inr dead ↦ absurd (cc (rw dead at child)) ]
+  | inl live ↦ (process, record { within = within; there = there; live = live }, grind (arith, nat_tests, child, live))
+  | inr dead ↦ absurd (cc (rw dead at child))
+]
 live_child r parent place None within there child = absurd (cc child)
 
 child_by_living : (r : Records) (words : WordMap) (parent pid : ℕ) (held : Option Process) → Missing r words pid ⊎ Living r words pid → process_at r words pid ≡ held → is_child_of parent held ≡ true
@@ -227,16 +237,16 @@ unfolding has_child unix_of processes_of process_of
 child_is r words tapes steps traps parent sound =
     let test = λ (pid : ℕ). is_child_of parent (process_at r words pid) in
     same_tests (is_any test 1 256) (has_such r (is_live_child parent))
-      (λ any.
-        let passing : Passing test 1 257 = any_passing test 1 256 257 refl any in
-        child_by_living r words parent passing.number (process_at r words passing.number) (living r words passing.number sound) refl passing.passes)
-      (λ such.
-        let passing : Passing (λ k. is_live_child parent (r.procs k)) 0 16 = such_passing r (is_live_child parent) such in
-        let child = live_child r parent passing.number (r.procs passing.number) passing.to refl passing.passes in
-        let range = pid_range r passing.number child.0 sound.values child.1 in
-        let own : (child.0.parent == parent) ≡ true = grind (arith, nat_tests, child.2) in
-        let passes : test child.0.pid ≡ true = ap (is_child_of parent) (found_in r words passing.number child.0 sound child.1) ∙ own in
-        any_found test 1 256 257 child.0.pid refl range.0 (omega (arith, range.1)) passes)
+    (λ any.
+    let passing : Passing test 1 257 = any_passing test 1 256 257 refl any in
+    child_by_living r words parent passing.number (process_at r words passing.number) (living r words passing.number sound) refl passing.passes)
+    (λ such.
+    let passing : Passing (λ k. is_live_child parent (r.procs k)) 0 16 = such_passing r (is_live_child parent) such in
+    let child = live_child r parent passing.number (r.procs passing.number) passing.to refl passing.passes in
+    let range = pid_range r passing.number child.0 sound.values child.1 in
+    let own : (child.0.parent == parent) ≡ true = grind (arith, nat_tests, child.2) in
+    let passes : test child.0.pid ≡ true = ap (is_child_of parent) (found_in r words passing.number child.0 sound child.1) ∙ own in
+    any_found test 1 256 257 child.0.pid refl range.0 (omega (arith, range.1)) passes)
 
 wait_is : (r : Records) (words : WordMap) (tapes : ℕ → List ℕ) (steps traps : ℕ) (slot : ℕ) (process : ProcRec) → AreSound r → IsIn r slot process
     → (has_ended_child (unix_of r words tapes InKernel steps traps) process.pid || not (has_child (unix_of r words tapes InKernel steps traps) process.pid)) ≡ wait_goes_on r process.pid
@@ -249,31 +259,35 @@ pub call_is : (r : Records) (words : WordMap) (tapes : ℕ → List ℕ) (steps 
     → goes_on (keys_of now) (unix_of r words tapes InKernel steps traps) process.pid (process_of r words slot process) process.call ≡ call_goes_on r now process
 unfolding goes_on call_goes_on process_of
 call_is r words tapes steps traps now slot process sound is state = elim (sound.in_calls.calls slot process is state) [
-    inl write ↦ let two : (process.call == 2) ≡ true = grind (arith, nat_tests, write.0) in rw two refl
+  | inl write ↦ let two : (process.call == 2) ≡ true = grind (arith, nat_tests, write.0) in rw two refl
   | inr rest ↦ elim rest [
-    inl read ↦
-      let two : (process.call == 2) ≡ false = grind (arith, nat_tests, read.0) in
-      let three : (process.call == 3) ≡ true = grind (arith, nat_tests, read.0) in
-      rw (two, three) (read_is r words tapes steps traps now slot process read.2.0 sound is read.2.1 read.2.2)
-  | inr wait ↦
-      let two : (process.call == 2) ≡ false = grind (arith, nat_tests, wait.0) in
-      let three : (process.call == 3) ≡ false = grind (arith, nat_tests, wait.0) in
-      let ten : (process.call == 10) ≡ true = grind (arith, nat_tests, wait.0) in
-      rw (two, three, ten) (wait_is r words tapes steps traps slot process sound is) ] ]
+    | inl read ↦
+        let two : (process.call == 2) ≡ false = grind (arith, nat_tests, read.0) in
+        let three : (process.call == 3) ≡ true = grind (arith, nat_tests, read.0) in
+        rw (two, three) (read_is r words tapes steps traps now slot process read.2.0 sound is read.2.1 read.2.2)
+    | inr wait ↦
+        let two : (process.call == 2) ≡ false = grind (arith, nat_tests, wait.0) in
+        let three : (process.call == 3) ≡ false = grind (arith, nat_tests, wait.0) in
+        let ten : (process.call == 10) ≡ true = grind (arith, nat_tests, wait.0) in
+        rw (two, three, ten) (wait_is r words tapes steps traps slot process sound is)
+  ]
+]
 
 -- a signal that goes next is one of 1 to 15
 pub signal_range : (process : ProcRec) (signals : SigRec) (signal : ℕ) → next_signal process signals ≡ Some signal → (1 ≤ signal) × (signal < 16)
 unfolding next_signal
 signal_range process signals signal next = elim (cases_Bool (is_pending (Some signals) 9)) [
-    inl kill ↦
+  | inl kill ↦
       let nine : Some 9 ≡ Some signal = rw kill at next in
       let same : 9 ≡ signal = cc in
       (omega (arith, same), omega (arith, same))
   | inr other ↦ elim (cases_Bool (process.flags % 2 == 1)) [
-      inl runs ↦
+    | inl runs ↦
         let none : None ≡ Some signal = rw runs at (rw other at next) in
         absurd (cc none)
     | inr quiet ↦
         let found : least_from (is_pending (Some signals)) 1 15 ≡ Some signal = rw quiet at (rw other at next) in
         let within = least_within (is_pending (Some signals)) 1 15 signal found in
-        (within.0, omega (arith, within.1)) ] ]
+        (within.0, omega (arith, within.1))
+  ]
+]

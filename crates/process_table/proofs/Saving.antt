@@ -1,23 +1,20 @@
 -- A bank that is saved: in the Unix its trap counts, and nothing else changes.
-use Rattle.std.proofs.Common.{◌≡◌, ◌==◌, ℕ, ◌+◌, ◌<◌, ◌≤◌, Bool, true, false, List, Option, Some, None, IfSome, is_some, inl, inr, refl, sym, ap, subst, ◌∙◌, arith}
+use Rattle.std.proofs.Common.{◌≡◌, ◌==◌, ℕ, ◌+◌, true, List, Option, Some, IfSome, inl, inr, refl, sym, ap, subst, ◌∙◌, arith}
 use Rattle.std.proofs.lemmas.Bool.Decides.{nat_tests}
-use Rattle.std.proofs.lemmas.Grind.{common_steps}
 use Rattle.ow_base.specs.Sv32.{WordMap}
 use Rattle.ow_base.specs.Words.{updated}
 use Rattle.ow_base.specs.declared.machine.Bank.{Bank}
 use Rattle.record_layouts.specs.declared.head.HeadRec.{HeadRec}
 use Rattle.record_layouts.specs.declared.proc.ProcRec.{ProcRec}
-use Rattle.record_layouts.specs.declared.sig.SigRec.{SigRec}
-use Rattle.record_layouts.specs.Unix.{Unix, Process}
-use Rattle.record_layouts.specs.Calls.{trapped, with_process}
+use Rattle.record_layouts.specs.Unix.{Process}
+use Rattle.record_layouts.specs.Calls.{trapped}
 use Rattle.record_layouts.specs.Held.{Records, with_items}
 use Rattle.record_layouts.specs.Pages.{is_live, region_of, pages_of, frame_of, entry_for}
 use Rattle.record_layouts.specs.Proc.{FitsProc, FitsLive}
-use Rattle.record_layouts.specs.Decode.{Context, InKernel, InUser, process_of, process_at, processes_of, with_bank, unix_of}
-use Rattle.record_layouts.specs.Sound.{IsIn, AreNumbered, AreSound}
+use Rattle.record_layouts.specs.Decode.{InKernel, InUser, process_of, processes_of, with_bank, unix_of}
+use Rattle.record_layouts.specs.Sound.{IsIn, AreSound}
 use Rattle.process_table.specs.Patches.{saved_items, saved_process}
 use Rattle.process_table.proofs.Ended.{live_fits}
-use Rattle.process_table.specs.Meaning.{IsOf}
 use Rattle.process_table.proofs.Kept.{IsKin, set_here, same_or_not, set_other}
 use Rattle.process_table.proofs.Seats.{found_in}
 use Rattle.process_table.proofs.Changes.{IsChange, AreFor, changed_records, change_sound}
@@ -39,7 +36,9 @@ same_signals r slot process sound is = record {
 
 saved_kin : (process : ProcRec) (bank : Bank) → is_live process ≡ true → process.state ≡ 1 → IsKin process (saved_process process bank)
 saved_kin process bank live out = record {
-  pid = refl; parent = refl; descs = refl;
+  pid = refl;
+  parent = refl;
+  descs = refl;
   regions = record { live = live; lives = live; code = refl; values = refl; brk = refl };
   call = λ in_call. absurd (omega (arith, out, in_call));
 }
@@ -89,8 +88,9 @@ user_is r words slot process count bank sound is =
 -- a process that is set to itself
 set_itself_at : (ps : ℕ → Option Process) (pid : ℕ) (p : Process) (q : ℕ) → ps pid ≡ Some p → updated ps pid (Some p) q ≡ ps q
 set_itself_at ps pid p q there = elim (same_or_not q pid) [
-    inl here ↦ subst (λ (k : ℕ). updated ps pid (Some p) k ≡ ps k) (sym here) (set_here ps pid (Some p) ∙ sym there)
-  | inr apart ↦ set_other ps pid (Some p) q apart ]
+  | inl here ↦ subst (λ (k : ℕ). updated ps pid (Some p) k ≡ ps k) (sym here) (set_here ps pid (Some p) ∙ sym there)
+  | inr apart ↦ set_other ps pid (Some p) q apart
+]
 
 set_itself : (ps : ℕ → Option Process) (pid : ℕ) (p : Process) → ps pid ≡ Some p → updated ps pid (Some p) ≡ ps
 set_itself ps pid p there = λ i q. set_itself_at ps pid p q there i
@@ -98,7 +98,7 @@ set_itself ps pid p there = λ i q. set_itself_at ps pid p q there i
 pub saved_unix : (r : Records) (head : HeadRec) (slot : ℕ) (process : ProcRec) (bank : Bank) (trap : ℕ) (words : WordMap) (tapes : ℕ → List ℕ) (count steps traps : ℕ)
     → AreSound r → r.head ≡ Some head → IsIn r slot process → process.state ≡ 1
     → unix_of (with_items r (saved_items head slot process bank trap)) words tapes InKernel (steps + 1) (traps + 1)
-      ≡ trapped (unix_of r words tapes (InUser process.pid count bank) steps traps) process.pid
+    ≡ trapped (unix_of r words tapes (InUser process.pid count bank) steps traps) process.pid
 unfolding unix_of trapped
 saved_unix r head slot process bank trap words tapes count steps traps sound is_head is out =
     let context = InUser process.pid count bank in
@@ -106,7 +106,7 @@ saved_unix r head slot process bank trap words tapes count steps traps sound is_
     let held : processes_of r words context process.pid ≡ Some p = user_is r words slot process count bank sound is in
     let change : IsChange r head slot process (saved_process process bank) r.sigs = saved_change r head slot process bank sound is_head is out in
     let made = changed_unix r head slot process (saved_process process bank) r.sigs trap words tapes context steps traps p p sound change refl held
-        (made_is r head slot process bank trap words) refl in
+    (made_is r head slot process bank trap words) refl in
     ap (λ (x : Records). unix_of x words tapes InKernel (steps + 1) (traps + 1)) (saved_are r head slot process bank trap)
     ∙ (made ∙ ap (λ (live : ℕ → Option Process). record (trapped (unix_of r words tapes context steps traps) process.pid) { processes = live })
-        (set_itself (processes_of r words context) process.pid p held))
+    (set_itself (processes_of r words context) process.pid p held))

@@ -1,18 +1,14 @@
 -- Which pid is in which slot, and how a live process decodes.
-use Rattle.std.proofs.Common.{◌≡◌, ◌≢◌, ◌⊎◌, ◌==◌, ℕ, ◌+◌, ◌-◌, ◌<◌, ◌≤◌, Bool, true, false, Option, Some, None, is_some, inl, inr, refl, sym, ap, subst, ◌∙◌, arith}
+use Rattle.std.proofs.Common.{◌≡◌, ◌⊎◌, ◌==◌, ℕ, ◌≤◌, true, false, Option, Some, None, is_some, inl, inr, refl, ap, subst, arith}
 use Rattle.std.proofs.lemmas.Bool.{cases_Bool}
 use Rattle.std.proofs.lemmas.Bool.Decides.{nat_tests}
-use Rattle.std.proofs.lemmas.Grind.{common_steps}
 use Rattle.ow_base.specs.Sv32.{WordMap}
 use Rattle.record_layouts.specs.declared.proc.ProcRec.{ProcRec}
-use Rattle.record_layouts.specs.declared.exit.ExitRec.{ExitRec}
-use Rattle.record_layouts.specs.Unix.{Process}
-use Rattle.record_layouts.specs.Choice.{least_from}
-use Rattle.record_layouts.specs.Held.{Records, AreComplete, AreValues}
+use Rattle.record_layouts.specs.Held.{Records, AreValues}
 use Rattle.record_layouts.specs.Pages.{is_live, is_mapped}
-use Rattle.record_layouts.specs.Proc.{FitsProc, FitsLive}
-use Rattle.record_layouts.specs.Decode.{slot_by, is_number, pid_in, decodes, process_by, process_in, process_of, process_at}
-use Rattle.record_layouts.specs.Sound.{IsIn, AreNumbered, AreMapped, AreSound}
+use Rattle.record_layouts.specs.Proc.{FitsProc}
+use Rattle.record_layouts.specs.Decode.{slot_by, is_number, pid_in, decodes, process_of, process_at}
+use Rattle.record_layouts.specs.Sound.{IsIn, AreNumbered, AreSound}
 use Rattle.process_table.specs.Least.{IsLeast, NonePasses}
 use Rattle.process_table.proofs.Least.{least_found}
 use Rattle.process_table.proofs.Ended.{live_fits}
@@ -29,8 +25,9 @@ is_this slot other held same = rw same refl
 -- a number that is another is not this one
 pub other_number : (held : Option ℕ) (slot : ℕ) → (held ≡ Some slot → ⊥) → is_number held slot ≡ false
 other_number (Some n) slot not_this = elim (cases_Bool (n == slot)) [
-    inl same ↦ let equal : n ≡ slot = grind (arith, nat_tests) in absurd (not_this (ap Some equal))
-  | inr other ↦ other ]
+  | inl same ↦ let equal : n ≡ slot = grind (arith, nat_tests) in absurd (not_this (ap Some equal))
+  | inr other ↦ other
+]
 other_number None slot not_this = refl
 
 pub this_number : (n : ℕ) → is_number (Some n) n ≡ true
@@ -44,8 +41,10 @@ pid_here r slot process values numbered is =
     let exit : slot_by (r.exits process.pid) ≡ Some slot = numbered.exit slot process is in
     let test = λ (pid : ℕ). is_number (slot_by (r.exits pid)) slot in
     let passes : test process.pid ≡ true = rw exit (this_number slot) in
-    let below : NonePasses test 1 process.pid = record { none = λ k from less. other_number (slot_by (r.exits k)) slot (λ same.
-        let equal : k ≡ process.pid = numbered.one_slot k process.pid slot same exit in omega (arith, equal, less)) } in
+    let below : NonePasses test 1 process.pid = record {
+      none = λ k from less. other_number (slot_by (r.exits k)) slot (λ same.
+          let equal : k ≡ process.pid = numbered.one_slot k process.pid slot same exit in omega (arith, equal, less));
+    } in
     let least : IsLeast test 1 257 process.pid = record { from = range.0; to = omega (arith, range.1); passes = passes; below = below } in
     least_found test 1 256 257 process.pid refl least
 
@@ -62,7 +61,7 @@ found_in r words slot process sound is =
     let here : pid_in r slot ≡ Some process.pid = pid_here r slot process sound.values sound.numbered is in
     let exit : slot_by (r.exits process.pid) ≡ Some slot = sound.numbered.exit slot process is in
     let decoded : decodes r slot process.pid process ≡ true =
-        decodes_here r slot process sound.complete.head is.live (sound.mapped.mapped slot process is) in
+    decodes_here r slot process sound.complete.head is.live (sound.mapped.mapped slot process is) in
     let there : r.procs slot ≡ Some process = is.there in
     rw exit (rw here (rw (this_number process.pid) (rw there (rw decoded refl))))
 
@@ -90,7 +89,7 @@ living_by r words pid None sound exit = inl (record { exit = exit; decoded = not
 living_by r words pid (Some slot) sound exit =
     let found = sound.numbered.process pid slot exit in
     let decoded : process_at r words pid ≡ Some (process_of r words slot found.0) =
-        subst (λ (p : ℕ). process_at r words p ≡ Some (process_of r words slot found.0)) found.2 (found_in r words slot found.0 sound found.1) in
+    subst (λ (p : ℕ). process_at r words p ≡ Some (process_of r words slot found.0)) found.2 (found_in r words slot found.0 sound found.1) in
     inr (record { slot = slot; process = found.0; is = found.1; exit = exit; same = found.2; decoded = decoded })
 
 -- each pid is that of a live process or of none

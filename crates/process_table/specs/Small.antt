@@ -1,7 +1,6 @@
 -- The records of a small view for tests: a process in each of sixteen slots, told by one number, and nothing else.
-use Rattle.std.specs.Prelude.{ℕ, Bool, ◌+◌, ◌*◌, ◌%◌, ◌^◌, nat_lt, ◌==◌, if◌then◌else◌, List, ◌∷◌, replicate, slice_index, Option, Some, None}
+use Rattle.std.specs.Prelude.{ℕ, Bool, ◌+◌, ◌*◌, ◌%◌, ◌^◌, nat_lt, ◌==◌, if◌then◌else◌, List, ◌∷◌, replicate, slice_index, Some, None}
 use Rattle.record_layouts.specs.declared.proc.ProcRec.{ProcRec}
-use Rattle.record_layouts.specs.declared.sig.SigRec.{SigRec}
 use Rattle.record_layouts.specs.Held.{Records}
 use Rattle.process_table.specs.Patches.{blank_bank}
 
@@ -14,17 +13,45 @@ parent_of pid = if pid == 1 then 0 else 1
 
 abbrev pub live_process : (state call pid : ℕ) → ProcRec
 live_process state call pid = record {
-  state = state; pid = pid; parent = parent_of pid; call = call; done = 0; code_pages = 1; data_pages = 0; brk = 0;
-  procedure = 0; mask = 0; flags = 0; status = 0; descs = 1 ∷ replicate 7 0; regs = replicate 31 0; pc = 0x10000;
-  handler_save = blank_bank; crash_save = blank_bank;
+  state = state;
+  pid = pid;
+  parent = parent_of pid;
+  call = call;
+  done = 0;
+  code_pages = 1;
+  data_pages = 0;
+  brk = 0;
+  procedure = 0;
+  mask = 0;
+  flags = 0;
+  status = 0;
+  descs = 1 ∷ replicate 7 0;
+  regs = replicate 31 0;
+  pc = 0x10000;
+  handler_save = blank_bank;
+  crash_save = blank_bank;
 }
 
 -- nothing but these: a free slot, or a process that has ended
 abbrev pub over_process : (state pid parent status : ℕ) → ProcRec
 over_process state pid parent status = record {
-  state = state; pid = pid; parent = parent; call = 0; done = 0; code_pages = 0; data_pages = 0; brk = 0;
-  procedure = 0; mask = 0; flags = 0; status = status; descs = replicate 8 0; regs = replicate 31 0; pc = 0;
-  handler_save = blank_bank; crash_save = blank_bank;
+  state = state;
+  pid = pid;
+  parent = parent;
+  call = 0;
+  done = 0;
+  code_pages = 0;
+  data_pages = 0;
+  brk = 0;
+  procedure = 0;
+  mask = 0;
+  flags = 0;
+  status = status;
+  descs = replicate 8 0;
+  regs = replicate 31 0;
+  pc = 0;
+  handler_save = blank_bank;
+  crash_save = blank_bank;
 }
 
 -- 0 is a free slot, 1 a process outside a call, 2 one in a write, 3 one that has ended, 5 one in a read of a terminal,

@@ -1,13 +1,12 @@
 -- The records of the small view can be spelled.
-use Rattle.std.proofs.Common.{◌≡◌, ◌==◌, if◌then◌else◌, ℕ, zero, suc, ◌+◌, ◌*◌, ◌%◌, ◌<◌, ◌≤◌, Bool, true, false, List, ◌∷◌, replicate, slice_index, EachIndex, inl, inr, refl, sym, ap, ◌∙◌, arith}
+use Rattle.std.proofs.Common.{◌==◌, if◌then◌else◌, ℕ, zero, suc, ◌<◌, ◌≤◌, Bool, true, false, List, ◌∷◌, replicate, slice_index, inl, inr, refl, arith}
 use Rattle.std.proofs.lemmas.Bool.{cases_Bool}
 use Rattle.std.proofs.lemmas.List.{get_or-replicate}
 use Rattle.std.proofs.lemmas.Grind.{common_steps}
-use Rattle.record_layouts.specs.declared.proc.ProcRec.{ProcRec}
-use Rattle.record_layouts.specs.Held.{Records, AreValues}
-use Rattle.record_layouts.specs.Proc.{FitsProc, FitsLive, FitsFree, IsOver, IsBlankBank}
+use Rattle.record_layouts.specs.Held.{AreValues}
+use Rattle.record_layouts.specs.Proc.{FitsProc, FitsLive, IsOver, IsBlankBank}
 use Rattle.record_layouts.specs.Exit.{FitsExit}
-use Rattle.record_layouts.specs.Spelling.{AreZero, IsStatus}
+use Rattle.record_layouts.specs.Spelling.{AreZero}
 use Rattle.process_table.specs.Patches.{blank_bank}
 use Rattle.process_table.specs.Small.{pid_in, parent_of, over_process, live_process, process_by, small_records}
 
@@ -20,8 +19,14 @@ descs_fit (suc k) within = omega (arith, get_or-replicate {A = ℕ} 7 k 0 0 (ome
 
 live : (state call pid : ℕ) → 1 ≤ pid → pid ≤ 256 → FitsLive (live_process state call pid)
 live state call pid from to = record {
-  pid = (from, to); parent = parent_fits pid; code_pages = (omega arith, omega arith); data_pages = omega arith; heap_end = omega arith; flags = omega arith;
-  status = refl; descs = descs_fit;
+  pid = (from, to);
+  parent = parent_fits pid;
+  code_pages = (omega arith, omega arith);
+  data_pages = omega arith;
+  heap_end = omega arith;
+  flags = omega arith;
+  status = refl;
+  descs = descs_fit;
 }
 
 in_call : (call pid : ℕ) → 1 ≤ pid → pid ≤ 256 → FitsProc (live_process 2 call pid)
@@ -52,8 +57,19 @@ blank = record { regs = zeros 31; pc = refl }
 
 over : (state pid parent status : ℕ) → IsOver (over_process state pid parent status)
 over state pid parent status = record {
-  call = refl; done = refl; code_pages = refl; data_pages = refl; brk = refl; procedure = refl; mask = refl; flags = refl;
-  descs = zeros 8; regs = zeros 31; pc = refl; handler_save = blank; crash_save = blank;
+  call = refl;
+  done = refl;
+  code_pages = refl;
+  data_pages = refl;
+  brk = refl;
+  procedure = refl;
+  mask = refl;
+  flags = refl;
+  descs = zeros 8;
+  regs = zeros 31;
+  pc = refl;
+  handler_save = blank;
+  crash_save = blank;
 }
 
 free : FitsProc (over_process 0 0 0 0)
@@ -78,16 +94,21 @@ gone pid from to = record {
 
 pub process_fits : (kind pid : ℕ) → 1 ≤ pid → pid ≤ 256 → FitsProc (process_by kind pid)
 process_fits kind pid from to = elim (cases_Bool (kind == 0)) [
-    inl is ↦ rw is free
+  | inl is ↦ rw is free
   | inr not_free ↦ rw not_free (elim (cases_Bool (kind == 1)) [
-    inl is ↦ rw is (outside pid from to)
-  | inr not_out ↦ rw not_out (elim (cases_Bool (kind == 2)) [
-    inl is ↦ rw is (in_call 2 pid from to)
-  | inr not_write ↦ rw not_write (elim (cases_Bool (kind == 3)) [
-    inl is ↦ rw is (gone pid from to)
-  | inr not_ended ↦ rw not_ended (elim (cases_Bool (kind == 5)) [
-    inl is ↦ rw is (in_call 3 pid from to)
-  | inr not_read ↦ rw not_read (in_call 10 pid from to) ]) ]) ]) ]) ]
+    | inl is ↦ rw is (outside pid from to)
+    | inr not_out ↦ rw not_out (elim (cases_Bool (kind == 2)) [
+      | inl is ↦ rw is (in_call 2 pid from to)
+      | inr not_write ↦ rw not_write (elim (cases_Bool (kind == 3)) [
+        | inl is ↦ rw is (gone pid from to)
+        | inr not_ended ↦ rw not_ended (elim (cases_Bool (kind == 5)) [
+          | inl is ↦ rw is (in_call 3 pid from to)
+          | inr not_read ↦ rw not_read (in_call 10 pid from to)
+        ])
+      ])
+    ])
+  ])
+]
 
 exit_fits : (lives : Bool) → FitsExit (record { state = if lives then 1 else 2; value = 0 })
 exit_fits true = inr (inl (record { state = refl; slot = omega arith }))

@@ -12,11 +12,14 @@ use record_layouts::{DescRec, ProcRec, RecordView};
 
 // The numbers of the calls that a process can be in: write, read and wait.
 const WRITE: u32 = 2;
+
 const READ: u32 = 3;
+
 const WAIT: u32 = 10;
 
 // What a description is open on: a file or a terminal.
 const FILE: u32 = 1;
+
 const TERMINAL: u32 = 2;
 
 /// What a kernel does next. The numbers are slots.
@@ -68,7 +71,11 @@ fn read_goes_on<V: RecordView>(view: &V, now: &Now, process: &ProcRec) -> bool
     ensures { result ≡ read_by (V.records view.now) now.now (description_in (V.records view.now) process.now) }
 {
     match description_in(view, process) {
-        Some(description) if description.object == TERMINAL => tty_goes_on(view, now, description.index),
+        Some(description) if description.object == TERMINAL => tty_goes_on(
+            view,
+            now,
+            description.index,
+        ),
         Some(description) => description.object == FILE,
         None => false,
     }
@@ -104,7 +111,9 @@ fn is_runnable<V: RecordView>(view: &V, now: &Now, slot: u32, process: &ProcRec)
     requires live { is_live process.now ≡ true }
     ensures { result ≡ is_runnable_in (V.records view.now) now.now slot process.now }
 {
-    signal_of(view, slot, process).is_some() || process.state == OUTSIDE || call_goes_on(view, now, process)
+    signal_of(view, slot, process).is_some()
+        || process.state == OUTSIDE
+        || call_goes_on(view, now, process)
 }
 
 // The process of the slot where it is live, can run and has a pid above this one.

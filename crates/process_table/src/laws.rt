@@ -29,7 +29,7 @@ pub const fn an_end_is_an_end()
         → AreSound r → r.head ≡ Some head → IsIn r slot process → IsStatus status → IsOf context process.pid
         → (unix_of r words tapes context steps traps).processes process.pid ≡ Some p
         → unix_of (with_items r (ended_items head slot process status trap)) words tapes InKernel (steps + 1) (traps + 1)
-            ≡ ended_as (trapped (unix_of r words tapes context steps traps) process.pid) process.pid p status }
+        ≡ ended_as (trapped (unix_of r words tapes context steps traps) process.pid) process.pid p status }
 {}
 
 /// To save the bank of a process that was in user mode is a trap of it in the Unix, and nothing else.
@@ -38,7 +38,7 @@ pub const fn saves_only_count()
         (tapes : ℕ → List ℕ) (count steps traps : ℕ)
         → AreSound r → r.head ≡ Some head → IsIn r slot process → process.state ≡ 1
         → unix_of (with_items r (saved_items head slot process bank trap)) words tapes InKernel (steps + 1) (traps + 1)
-            ≡ trapped (unix_of r words tapes (InUser process.pid count bank) steps traps) process.pid }
+        ≡ trapped (unix_of r words tapes (InUser process.pid count bank) steps traps) process.pid }
 {}
 
 /// A signal that goes to a process by records is the next one in the Unix, and does there what it does in the Unix.
@@ -50,7 +50,7 @@ pub const fn signals_agree()
         → AreSound r → r.head ≡ Some head → IsIn r slot process → r.sigs slot ≡ Some signals
         → next_signal process signals ≡ Some signal
         → unix_of (with_items r (signal_items head slot process signals signal trap)) words tapes InKernel (steps + 1) (traps + 1)
-            ≡ signalled (unix_of r words tapes InKernel steps traps) process.pid (process_of r words slot process) signal }
+        ≡ signalled (unix_of r words tapes InKernel steps traps) process.pid (process_of r words slot process) signal }
 {}
 
 /// The process that is chosen by records is the one that the Unix chooses, and where none is chosen by records the Unix
@@ -64,7 +64,7 @@ pub const fn choices_agree()
     ensures live { (r : Records) (words : WordMap) (tapes : ℕ → List ℕ) (steps traps : ℕ) (now : Now) (is_any : Bool)
         → AreSound r → IsRest r now is_any
         → is_any_live (unix_of r words tapes InKernel steps traps).processes 1
-            ((unix_of r words tapes InKernel steps traps).next_pid - 1) ≡ is_any }
+        ((unix_of r words tapes InKernel steps traps).next_pid - 1) ≡ is_any }
 {}
 
 /// Sound records stay sound once a patch of this crate is set.

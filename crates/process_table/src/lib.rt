@@ -11,10 +11,10 @@ mod slots;
 mod tests;
 
 pub use choice::{Choice, choose};
-pub use ow_base::{Bank, Now};
-pub use patches::{end_process, save_bank, take_signal};
-pub use record_layouts::{Patch, RecordView};
 pub use laws::{
     an_end_is_an_end, choices_agree, saves_only_count, signals_agree, sound_records_stay_sound,
 };
+pub use ow_base::{Bank, Now};
+pub use patches::{end_process, save_bank, take_signal};
+pub use record_layouts::{Patch, RecordView};
 pub use slots::{free_slot, next_pid};

@@ -105,7 +105,14 @@ fn interrupted(process: &ProcRec) -> ProcRec
         return *process;
     }
     let mut regs = process.regs;
-    regs.set(ANSWER, if process.done == 0 { INTERRUPTED } else { process.done });
+    regs.set(
+        ANSWER,
+        if process.done == 0 {
+            INTERRUPTED
+        } else {
+            process.done
+        },
+    );
     ProcRec {
         state: OUTSIDE,
         call: 0,
@@ -202,6 +209,9 @@ pub fn take_signal<V: RecordView>(view: &V, slot: u32, trap: u32) -> Patch
         return ending(&head, slot, &process, KILLED + signal, trap);
     }
     let mut patch = served(&head, trap, slot, &signalled(&process, signal, handler));
-    patch.put(RecordId::Sig(slot), AnyRec::Sig(without_signal(&signals, signal)));
+    patch.put(
+        RecordId::Sig(slot),
+        AnyRec::Sig(without_signal(&signals, signal)),
+    );
     patch
 }

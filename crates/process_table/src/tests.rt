@@ -4,9 +4,11 @@ mod small_view;
 ghost use Rattle.std.specs.Prelude.{◌≡◌, ◌<◌, true, IsTrue};
 ghost use Rattle.process_table.specs.Slots.{is_live_one};
 
-use crate::{Bank, Choice, Now, Patch, choose, end_process, free_slot, next_pid, save_bank, take_signal};
 use crate::signals::signal_of;
 use crate::slots::is_live;
+use crate::{
+    Bank, Choice, Now, Patch, choose, end_process, free_slot, next_pid, save_bank, take_signal,
+};
 use ow_base::Regs;
 use record_layouts::{AnyRec, RecordView};
 use small_view::{CONSUMED, ENDED, FREE, OUT, READS, Small, WAITS, WRITES};
@@ -87,7 +89,14 @@ fn all_kinds(bits: u32) -> [u32; 16] {
 
 #[test]
 fn chooses_among_sixteen(rt: HostRuntime) {
-    for bits in [0x9c27_f1b3, 0xffff_ff7f, 0x0300_0c00, 0xc0ff_33fb, 0xffff_ffff, 0x5555_5555] {
+    for bits in [
+        0x9c27_f1b3,
+        0xffff_ff7f,
+        0x0300_0c00,
+        0xc0ff_33fb,
+        0xffff_ffff,
+        0x5555_5555,
+    ] {
         for last in 0..18 {
             let kinds = all_kinds(bits);
             let view = Small {
@@ -201,7 +210,9 @@ fn patches_tell_what_ends(rt: HostRuntime) {
 // What the signal of the process in slot 0 does, if one goes to it.
 fn signalled(view: &Small) -> [u32; 6] {
     match view.proc(0) {
-        Some(process) if is_live(&process) && signal_of(view, 0, &process).is_some() => told(&take_signal(view, 0, 9)),
+        Some(process) if is_live(&process) && signal_of(view, 0, &process).is_some() => told(
+            &take_signal(view, 0, 9),
+        ),
         _ => [0; 6],
     }
 }

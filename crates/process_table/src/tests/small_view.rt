@@ -10,10 +10,15 @@ use record_layouts::{
 };
 
 pub(crate) const FREE: u32 = 0;
+
 pub(crate) const OUT: u32 = 1;
+
 pub(crate) const WRITES: u32 = 2;
+
 pub(crate) const ENDED: u32 = 3;
+
 pub(crate) const WAITS: u32 = 4;
+
 pub(crate) const READS: u32 = 5;
 
 // How many typed bytes are consumed.

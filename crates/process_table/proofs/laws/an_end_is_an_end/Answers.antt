@@ -1,4 +1,4 @@
-use Rattle.std.proofs.Common.{◌≡◌, ◌+◌, ◌∙◌, ap}
+use Rattle.std.proofs.Common.{◌+◌, ◌∙◌, ap}
 use Rattle.record_layouts.specs.Held.{Records}
 use Rattle.record_layouts.specs.Decode.{InKernel, unix_of}
 use Rattle.process_table.proofs.Endings.{ended_are}

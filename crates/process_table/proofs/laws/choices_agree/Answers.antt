@@ -1,4 +1,4 @@
-use Rattle.std.proofs.Common.{◌≡◌, ◌∙◌}
+use Rattle.std.proofs.Common.{◌∙◌}
 use Rattle.process_table.proofs.Chosen.{chosen_is, none_chosen, any_live_is}
 use Rattle.process_table.proofs.laws.choices_agree.Goals as goal
 

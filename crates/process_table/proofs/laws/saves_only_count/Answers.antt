@@ -1,4 +1,3 @@
-use Rattle.std.proofs.Common.{◌≡◌}
 use Rattle.process_table.proofs.Saving.{saved_unix}
 use Rattle.process_table.proofs.laws.saves_only_count.Goals as goal
 

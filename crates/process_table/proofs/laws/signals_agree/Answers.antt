@@ -1,4 +1,3 @@
-use Rattle.std.proofs.Common.{◌≡◌}
 use Rattle.process_table.proofs.Running.{signal_is, signal_range}
 use Rattle.process_table.proofs.Signalling.{signal_unix}
 use Rattle.process_table.proofs.laws.signals_agree.Goals as goal

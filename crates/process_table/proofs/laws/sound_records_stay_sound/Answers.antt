@@ -1,4 +1,4 @@
-use Rattle.std.proofs.Common.{◌≡◌, sym, subst}
+use Rattle.std.proofs.Common.{sym, subst}
 use Rattle.record_layouts.specs.Sound.{AreSound}
 use Rattle.process_table.proofs.Endings.{ended_are}
 use Rattle.process_table.proofs.EndedSound.{ended_sound}

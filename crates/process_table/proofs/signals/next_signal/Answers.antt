@@ -10,5 +10,5 @@ pub returns-else-process-eq1-clause-same : goal.returns-else-process-eq1-clause-
 unfolding next_signal
 returns-else-process-eq1-clause-same c =
     let least : c.least_pending.result ≡ least_from (is_pending (Some c.args.signals.now)) 1 15 =
-        least_by (is_pending (Some c.args.signals.now)) 1 15 c.least_pending.result c.least_pending.ensures.found c.least_pending.ensures.none in
+    least_by (is_pending (Some c.args.signals.now)) 1 15 c.least_pending.result c.least_pending.ensures.found c.least_pending.ensures.none in
     grind (arith, common_steps)
