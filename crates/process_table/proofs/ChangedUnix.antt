@@ -1,28 +1,26 @@
 -- Records in which one live process is changed stand for the state in which it is.
-use Rattle.std.proofs.Common.{◌≡◌, ◌≢◌, ◌⊎◌, ◌==◌, ◌&&◌, ◌||◌, if◌then◌else◌, ℕ, zero, suc, ◌+◌, ◌-◌, ◌<◌, ◌≤◌, Bool, true, false, nat_lt, List, Option, Some, None, IfSome, is_some, inl, inr, refl, sym, ap, subst, ◌∙◌, arith}
-use Rattle.std.proofs.lemmas.Bool.{cases_Bool}
+use Rattle.std.proofs.Common.{◌≡◌, ◌==◌, ◌||◌, if◌then◌else◌, ℕ, zero, suc, ◌+◌, Bool, true, false, List, Option, Some, None, is_some, inl, inr, refl, sym, ap, subst, ◌∙◌, arith}
 use Rattle.std.proofs.lemmas.Bool.Decides.{nat_tests}
-use Rattle.std.proofs.lemmas.Grind.{common_steps}
 use Rattle.ow_base.specs.Sv32.{WordMap}
 use Rattle.ow_base.specs.Words.{updated}
 use Rattle.ow_base.specs.declared.machine.Bank.{Bank}
 use Rattle.record_layouts.specs.declared.head.HeadRec.{HeadRec}
 use Rattle.record_layouts.specs.declared.proc.ProcRec.{ProcRec}
 use Rattle.record_layouts.specs.declared.sig.SigRec.{SigRec}
-use Rattle.record_layouts.specs.declared.exit.ExitRec.{ExitRec}
-use Rattle.record_layouts.specs.Unix.{Unix, Process, EndedChild, Description, in_use, is_named, is_named_by, is_among, AtKernel}
+use Rattle.record_layouts.specs.Unix.{Process, Description, in_use, is_named, is_named_by, is_among, AtKernel}
 use Rattle.record_layouts.specs.Calls.{trapped, with_process}
 use Rattle.record_layouts.specs.Choice.{least_from}
 use Rattle.record_layouts.specs.Held.{Records}
 use Rattle.record_layouts.specs.Pages.{is_live, pages_of, frame_of, entry_for}
 use Rattle.record_layouts.specs.Decode.{Context, InKernel, InUser, slot_by, process_of, process_at, processes_of, with_bank, is_ended_as, ended_by, ended_in, ended_of, description_by, terminal_by, status_by, next_by, unix_of}
-use Rattle.record_layouts.specs.Sound.{IsIn, AreNumbered, AreSound}
+use Rattle.record_layouts.specs.Sound.{IsIn, AreSound}
 use Rattle.process_table.proofs.Least.{least_passes}
 use Rattle.process_table.proofs.Regions.{changed}
+use Rattle.process_table.specs.Meaning.{IsOf}
 use Rattle.process_table.proofs.Kept.{set_here, set_other, same_or_not}
-use Rattle.process_table.proofs.Seats.{Missing, Living, living, found_in, not_found}
-use Rattle.process_table.proofs.Changes.{IsChange, AreFor, changed_records, change_sound, here_now}
-use Rattle.process_table.proofs.EndedUnix.{IsOf, others_are, live_not_ended}
+use Rattle.process_table.proofs.Seats.{living, found_in, not_found}
+use Rattle.process_table.proofs.Changes.{IsChange, changed_records, change_sound, here_now}
+use Rattle.process_table.proofs.EndedUnix.{others_are, live_not_ended}
 use Rattle.process_table.proofs.Endings.{served}
 
 -- what the Unix has of the process of a slot: all but the bank is told by its record

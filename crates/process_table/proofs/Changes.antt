@@ -1,13 +1,11 @@
 -- Records in which one live process is changed: they are sound as before.
-use Rattle.std.proofs.Common.{◌≡◌, ◌≢◌, ◌⊎◌, ◌==◌, ℕ, ◌+◌, ◌-◌, ◌<◌, ◌≤◌, Bool, true, false, nat_lt, Option, Some, None, IfSome, is_some, inl, inr, refl, sym, ap, subst, ◌∙◌, arith}
+use Rattle.std.proofs.Common.{◌≡◌, ℕ, ◌<◌, true, nat_lt, Option, Some, IfSome, is_some, inl, inr, refl, sym, ap, subst, ◌∙◌, arith}
 use Rattle.std.proofs.lemmas.Bool.Decides.{nat_tests}
-use Rattle.std.proofs.lemmas.Grind.{common_steps}
 use Rattle.ow_base.specs.Words.{updated}
 use Rattle.record_layouts.specs.declared.head.HeadRec.{HeadRec}
 use Rattle.record_layouts.specs.declared.proc.ProcRec.{ProcRec}
 use Rattle.record_layouts.specs.declared.sig.SigRec.{SigRec}
-use Rattle.record_layouts.specs.declared.exit.ExitRec.{ExitRec}
-use Rattle.record_layouts.specs.Held.{Records, AreComplete, AreValues}
+use Rattle.record_layouts.specs.Held.{Records}
 use Rattle.record_layouts.specs.Pages.{is_live}
 use Rattle.record_layouts.specs.Head.{FitsHead}
 use Rattle.record_layouts.specs.Proc.{FitsProc}
@@ -15,7 +13,7 @@ use Rattle.record_layouts.specs.Sig.{FitsSig}
 use Rattle.record_layouts.specs.Decode.{slot_by, next_by}
 use Rattle.record_layouts.specs.Sound.{IsIn, AreNumbered, AreSound}
 use Rattle.process_table.proofs.Regions.{changed}
-use Rattle.process_table.proofs.Kept.{set_here, set_other, same_or_not, IsKin, kin_itself, Was, AllWere, calls_stay, mapped_stay}
+use Rattle.process_table.proofs.Kept.{set_here, set_other, same_or_not, IsKin, kin_itself, AllWere, calls_stay, mapped_stay}
 use Rattle.process_table.proofs.Endings.{served}
 use Rattle.process_table.proofs.EndedSound.{held_by_place, filled_by_place, served_fits, where_held}
 use Rattle.process_table.proofs.Seats.{one_process}

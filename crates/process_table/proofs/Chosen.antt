@@ -1,24 +1,26 @@
 -- The process that is chosen by records is the one that the Unix chooses.
-use Rattle.std.proofs.Common.{◌≡◌, ◌≢◌, ◌⊎◌, ◌==◌, ◌&&◌, ◌||◌, ℕ, zero, suc, ◌+◌, ◌-◌, ◌<◌, ◌≤◌, Bool, true, false, nat_lt, List, Option, Some, None, is_some, inl, inr, refl, sym, ap, subst, ◌∙◌, arith}
+use Rattle.std.proofs.Common.{◌≡◌, ◌⊎◌, ◌==◌, ◌&&◌, ◌||◌, ℕ, zero, suc, ◌+◌, ◌-◌, ◌<◌, ◌≤◌, Bool, true, false, nat_lt, List, Option, Some, None, is_some, inl, inr, refl, sym, ap, subst, ◌∙◌, arith}
 use Rattle.std.proofs.lemmas.Bool.{cases_Bool}
 use Rattle.std.proofs.lemmas.Bool.Decides.{nat_tests}
 use Rattle.ow_base.specs.Sv32.{WordMap}
 use Rattle.ow_base.specs.declared.machine.Now.{Now}
 use Rattle.record_layouts.specs.declared.head.HeadRec.{HeadRec}
 use Rattle.record_layouts.specs.declared.proc.ProcRec.{ProcRec}
-use Rattle.record_layouts.specs.declared.sig.SigRec.{SigRec}
-use Rattle.record_layouts.specs.Unix.{Unix, Process, CallState, Out, In}
-use Rattle.record_layouts.specs.Choice.{Keys, least_from, or_else, deliverable, can_run, is_runnable, chosen}
+use Rattle.record_layouts.specs.Unix.{Process}
+use Rattle.record_layouts.specs.Choice.{least_from, or_else, deliverable, can_run, is_runnable, chosen, live_or, is_any_live}
 use Rattle.record_layouts.specs.Held.{Records}
 use Rattle.record_layouts.specs.Pages.{is_live}
 use Rattle.record_layouts.specs.Decode.{InKernel, call_of, process_of, process_at, processes_of, last_by, next_by, unix_of}
-use Rattle.record_layouts.specs.Sound.{IsIn, AreNumbered, AreSound, is_used}
+use Rattle.record_layouts.specs.Sound.{IsIn, AreSound, is_used}
 use Rattle.process_table.specs.Choosing.{keys_of, signal_by, is_runnable_in, is_ready, is_ready_one, pid_by, call_goes_on, IsNext, IsNone, IsChosen, last_pid}
+use Rattle.process_table.specs.Slots.{has_such, is_live_one}
 use Rattle.process_table.specs.Least.{IsLeast, NonePasses}
 use Rattle.process_table.proofs.Least.{least_found, least_none}
+use Rattle.process_table.proofs.Least.{Passing}
+use Rattle.process_table.proofs.Holding.{such_found, such_passing}
 use Rattle.process_table.proofs.Endings.{used_by}
 use Rattle.process_table.proofs.Seats.{Missing, Living, living, found_in, pid_range}
-use Rattle.process_table.proofs.Running.{signal_is, call_is}
+use Rattle.process_table.proofs.Running.{signal_is, call_is, same_tests}
 
 can_is : (r : Records) (words : WordMap) (tapes : ℕ → List ℕ) (steps traps : ℕ) (now : Now) (slot : ℕ) (process : ProcRec) → AreSound r → IsIn r slot process
     → can_run (keys_of now) (unix_of r words tapes InKernel steps traps) process.pid (process_of r words slot process) (call_of process) ≡ (process.state == 1 || call_goes_on r now process)
@@ -201,3 +203,64 @@ none_chosen r words tapes steps traps now sound none =
     is_either r words tapes steps traps now
     ∙ (ap (λ (o : Option ℕ). or_else o low) (none_above r words tapes steps traps now (last_pid r.head) (next_by r.head - (last_pid r.head + 1)) sound (none_higher r now (last_pid r.head) none))
     ∙ none_above r words tapes steps traps now 0 (next_by r.head - 1) sound none)
+
+live_or_true : (p : Option Process) (others : Bool) → is_some p ≡ true → live_or p others ≡ true
+live_or_true (Some p) others here = refl
+live_or_true None others here = cc
+
+live_or_rest : (p : Option Process) (others : Bool) → others ≡ true → live_or p others ≡ true
+live_or_rest (Some p) others rest = refl
+live_or_rest None others rest = rest
+
+after : (first k : ℕ) → first ≤ k → (first ≡ k → ⊥) → first + 1 ≤ k
+after first k from apart = elim (cases_Bool (first == k)) [
+  | inl same ↦ let equal : first ≡ k = grind (arith, nat_tests) in absurd (apart equal)
+  | inr other ↦ grind (arith, nat_tests, other)
+]
+
+live_first : (ps : ℕ → Option Process) (first : ℕ) (others : Bool) (held : Option Process) → ps first ≡ held → live_or held others ≡ true
+    → (others ≡ true → (k : ℕ) × (is_some (ps k) ≡ true)) → (k : ℕ) × (is_some (ps k) ≡ true)
+live_first ps first others (Some p) same any rest = (first, ap is_some same)
+live_first ps first others None same any rest = rest any
+
+-- some process is live, in the Unix and by records
+live_at : (ps : ℕ → Option Process) (first count k end : ℕ) → end ≡ first + count → first ≤ k → k < end → is_some (ps k) ≡ true → is_any_live ps first count ≡ true
+unfolding is_any_live
+live_at ps first zero k end sum from to live = absurd (omega arith)
+live_at ps first (suc count) k end sum from to live = elim (cases_Bool (is_some (ps first))) [
+  | inl here ↦ live_or_true (ps first) (is_any_live ps (first + 1) count) here
+  | inr missing ↦
+      let apart : first ≡ k → ⊥ = λ same. cc (sym missing ∙ subst (λ (j : ℕ). is_some (ps j) ≡ true) (sym same) live) in
+      let later : first + 1 ≤ k = after first k from apart in
+      live_or_rest (ps first) (is_any_live ps (first + 1) count) (live_at ps (first + 1) count k end (omega arith) later to live)
+]
+
+live_found : (ps : ℕ → Option Process) (first count : ℕ) → is_any_live ps first count ≡ true → (k : ℕ) × (is_some (ps k) ≡ true)
+unfolding is_any_live
+live_found ps first zero any = absurd (cc any)
+live_found ps first (suc count) any = live_first ps first (is_any_live ps (first + 1) count) (ps first) refl any (λ rest. live_found ps (first + 1) count rest)
+
+live_slot : (r : Records) (place : ℕ) (held : Option ProcRec) → place < 16 → r.procs place ≡ held → is_live_one held ≡ true → (process : ProcRec) × (IsIn r place process)
+live_slot r place (Some process) within there live = (process, record { within = within; there = there; live = live })
+live_slot r place None within there live = absurd (cc live)
+
+living_slot : (r : Records) (words : WordMap) (pid : ℕ) → Missing r words pid ⊎ Living r words pid → is_some (process_at r words pid) ≡ true → has_such r is_live_one ≡ true
+living_slot r words pid (inl missing) live = absurd (cc (sym (ap is_some missing.decoded) ∙ live))
+living_slot r words pid (inr found) live = such_found r is_live_one found.slot found.is.within (ap is_live_one found.is.there ∙ found.is.live)
+
+pub any_live_is : (r : Records) (words : WordMap) (tapes : ℕ → List ℕ) (steps traps : ℕ) → AreSound r
+    → is_any_live (unix_of r words tapes InKernel steps traps).processes 1 ((unix_of r words tapes InKernel steps traps).next_pid - 1) ≡ has_such r is_live_one
+unfolding unix_of processes_of
+any_live_is r words tapes steps traps sound =
+    let ps = process_at r words in
+    same_tests (is_any_live ps 1 (next_by r.head - 1)) (has_such r is_live_one)
+    (λ any.
+    let found = live_found ps 1 (next_by r.head - 1) any in
+    living_slot r words found.0 (living r words found.0 sound) found.1)
+    (λ such.
+    let passing : Passing (λ k. is_live_one (r.procs k)) 0 16 = such_passing r is_live_one such in
+    let held = live_slot r passing.number (r.procs passing.number) passing.to refl passing.passes in
+    let range = pid_range r passing.number held.0 sound.values held.1 in
+    let below : held.0.pid < next_by r.head = pid_below r passing.number held.0 sound held.1 in
+    live_at ps 1 (next_by r.head - 1) held.0.pid (next_by r.head) (omega (arith, range.0, below)) range.0 below
+    (ap is_some (found_in r words passing.number held.0 sound held.1)))

@@ -1,11 +1,10 @@
 -- What is left of a process that has ended can be spelled.
-use Rattle.std.proofs.Common.{◌≡◌, ℕ, ◌+◌, ◌<◌, ◌≤◌, true, replicate, slice_index, inl, inr, refl, sym, ap, ◌∙◌, arith}
+use Rattle.std.proofs.Common.{◌≡◌, ℕ, true, replicate, inl, inr, refl, arith}
 use Rattle.std.proofs.lemmas.Bool.Decides.{nat_tests}
 use Rattle.std.proofs.lemmas.List.{get_or-replicate}
-use Rattle.std.proofs.lemmas.Grind.{common_steps}
 use Rattle.record_layouts.specs.declared.proc.ProcRec.{ProcRec}
 use Rattle.record_layouts.specs.Pages.{is_live}
-use Rattle.record_layouts.specs.Proc.{FitsProc, FitsLive, FitsEnded, IsOver, IsBlankBank}
+use Rattle.record_layouts.specs.Proc.{FitsProc, FitsLive, IsOver, IsBlankBank}
 use Rattle.record_layouts.specs.Spelling.{AreZero, IsStatus}
 use Rattle.process_table.specs.Patches.{blank_bank, ended_process}
 

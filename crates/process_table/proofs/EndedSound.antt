@@ -1,15 +1,12 @@
 -- Records in which a process has ended are sound.
-use Rattle.std.proofs.Common.{◌≡◌, ◌≢◌, ◌⊎◌, ◌==◌, ℕ, ◌+◌, ◌-◌, ◌<◌, ◌≤◌, Bool, true, false, nat_lt, Option, Some, None, IfSome, is_some, inl, inr, refl, sym, ap, subst, ◌∙◌, arith}
+use Rattle.std.proofs.Common.{◌≡◌, ◌⊎◌, ◌==◌, ℕ, ◌≤◌, true, nat_lt, Option, Some, IfSome, is_some, inl, inr, refl, sym, ap, subst, ◌∙◌, arith}
 use Rattle.std.proofs.lemmas.Bool.{cases_Bool}
 use Rattle.std.proofs.lemmas.Bool.Decides.{nat_tests}
-use Rattle.std.proofs.lemmas.Grind.{common_steps}
 use Rattle.ow_base.specs.Words.{updated}
 use Rattle.record_layouts.specs.declared.head.HeadRec.{HeadRec}
 use Rattle.record_layouts.specs.declared.proc.ProcRec.{ProcRec}
-use Rattle.record_layouts.specs.declared.sig.SigRec.{SigRec}
 use Rattle.record_layouts.specs.declared.exit.ExitRec.{ExitRec}
 use Rattle.record_layouts.specs.Held.{Records, AreComplete, AreValues}
-use Rattle.record_layouts.specs.Pages.{is_live}
 use Rattle.record_layouts.specs.Head.{FitsHead}
 use Rattle.record_layouts.specs.Proc.{FitsProc}
 use Rattle.record_layouts.specs.Exit.{FitsExit}
@@ -18,7 +15,7 @@ use Rattle.record_layouts.specs.Decode.{slot_by, next_by}
 use Rattle.record_layouts.specs.Sound.{IsIn, AreNumbered, AreSound, is_used}
 use Rattle.process_table.specs.Patches.{ended_process, ended_exit}
 use Rattle.process_table.proofs.Ended.{ended_fits}
-use Rattle.process_table.proofs.Kept.{set_here, set_other, same_or_not, AllWere, calls_stay, mapped_stay}
+use Rattle.process_table.proofs.Kept.{set_here, set_other, same_or_not, calls_stay, mapped_stay}
 use Rattle.process_table.proofs.Endings.{served, ended_records, IsOther, others, all_were, used_by, slot_before, slot_still}
 
 -- a place of a changed function holds what it is given, or what it held

@@ -1,36 +1,28 @@
 -- Records in which a process has ended stand for the state in which it has.
-use Rattle.std.proofs.Common.{◌≡◌, ◌≢◌, ◌⊎◌, ◌==◌, ◌&&◌, ◌||◌, if◌then◌else◌, ℕ, zero, suc, ◌+◌, ◌-◌, ◌<◌, ◌≤◌, Bool, true, false, nat_lt, List, Option, Some, None, IfSome, is_some, inl, inr, refl, sym, ap, subst, ◌∙◌, arith}
+use Rattle.std.proofs.Common.{◌≡◌, ◌==◌, ◌&&◌, if◌then◌else◌, ℕ, zero, suc, ◌+◌, Bool, true, false, List, Option, Some, None, is_some, inl, inr, refl, sym, ap, subst, ◌∙◌, arith}
 use Rattle.std.proofs.lemmas.Bool.{cases_Bool}
 use Rattle.std.proofs.lemmas.Bool.Decides.{nat_tests}
-use Rattle.std.proofs.lemmas.Grind.{common_steps}
 use Rattle.ow_base.specs.Sv32.{WordMap}
 use Rattle.ow_base.specs.Words.{updated}
-use Rattle.ow_base.specs.declared.machine.Bank.{Bank}
 use Rattle.record_layouts.specs.declared.head.HeadRec.{HeadRec}
 use Rattle.record_layouts.specs.declared.proc.ProcRec.{ProcRec}
-use Rattle.record_layouts.specs.declared.sig.SigRec.{SigRec}
 use Rattle.record_layouts.specs.declared.exit.ExitRec.{ExitRec}
-use Rattle.record_layouts.specs.Unix.{Unix, Process, EndedChild, Description, in_use, is_named, is_named_by, AtKernel}
+use Rattle.record_layouts.specs.Unix.{Process, Description, in_use, is_named, is_named_by, AtKernel}
 use Rattle.record_layouts.specs.Calls.{trapped, ended_as, child_of, unless_child_of}
 use Rattle.record_layouts.specs.Choice.{least_from}
-use Rattle.record_layouts.specs.Held.{Records, with_items}
+use Rattle.record_layouts.specs.Held.{Records}
 use Rattle.record_layouts.specs.Pages.{is_live, pages_of, frame_of, entry_for}
 use Rattle.record_layouts.specs.Spelling.{IsStatus}
-use Rattle.record_layouts.specs.Decode.{Context, InKernel, InUser, slot_by, process_of, process_at, processes_of, with_bank, is_ended_as, ended_by, ended_in, ended_of, description_by, terminal_by, status_by, next_by, last_by, position_by, unix_of}
+use Rattle.record_layouts.specs.Decode.{Context, InKernel, InUser, slot_by, process_of, process_at, processes_of, with_bank, is_ended_as, ended_by, ended_in, ended_of, description_by, terminal_by, status_by, next_by, unix_of}
 use Rattle.record_layouts.specs.Sound.{IsIn, AreNumbered, AreSound}
-use Rattle.process_table.specs.Least.{IsLeast, NonePasses}
-use Rattle.process_table.specs.Patches.{ended_items, ended_process, ended_exit}
+use Rattle.process_table.specs.Meaning.{IsOf}
+use Rattle.process_table.specs.Least.{NonePasses}
+use Rattle.process_table.specs.Patches.{ended_process, ended_exit}
 use Rattle.process_table.proofs.Least.{least_found, least_passes}
-use Rattle.process_table.proofs.Regions.{changed}
 use Rattle.process_table.proofs.Kept.{set_here, set_other, same_or_not}
-use Rattle.process_table.proofs.Seats.{Missing, Living, living, found_in, not_found, pid_range}
-use Rattle.process_table.proofs.Endings.{served, ended_records, ended_are, slot_before, slot_still}
+use Rattle.process_table.proofs.Seats.{living, found_in, not_found}
+use Rattle.process_table.proofs.Endings.{ended_records}
 use Rattle.process_table.proofs.EndedSound.{ended_sound, ended_before}
-
--- the processor is in the kernel, or in this process
-abbrev pub IsOf : Context → (pid : ℕ) → Type 0
-IsOf InKernel pid = Unit {0}
-IsOf (InUser user count bank) pid = user ≡ pid
 
 -- what the processor has of a process is not seen of another
 pub others_are : (r : Records) (words : WordMap) (context : Context) (pid q : ℕ) → IsOf context pid → (q ≡ pid → ⊥) → processes_of r words context q ≡ process_at r words q

@@ -1,25 +1,17 @@
 -- Records in which a process has ended: they are sound as before.
-use Rattle.std.proofs.Common.{◌≡◌, ◌≢◌, ◌⊎◌, ◌==◌, ◌&&◌, ◌||◌, ℕ, ◌+◌, ◌-◌, ◌<◌, ◌≤◌, Bool, true, false, nat_lt, not, Option, Some, None, IfSome, is_some, inl, inr, refl, sym, ap, subst, ◌∙◌, arith}
-use Rattle.std.proofs.lemmas.Bool.{cases_Bool}
+use Rattle.std.proofs.Common.{◌≡◌, ℕ, true, Option, Some, None, inl, inr, refl, sym, subst, ◌∙◌, arith}
 use Rattle.std.proofs.lemmas.Bool.Decides.{nat_tests}
-use Rattle.std.proofs.lemmas.Grind.{common_steps}
 use Rattle.ow_base.specs.Words.{updated}
 use Rattle.record_layouts.specs.declared.head.HeadRec.{HeadRec}
 use Rattle.record_layouts.specs.declared.proc.ProcRec.{ProcRec}
-use Rattle.record_layouts.specs.declared.sig.SigRec.{SigRec}
 use Rattle.record_layouts.specs.declared.exit.ExitRec.{ExitRec}
-use Rattle.record_layouts.specs.Held.{Records, AreComplete, AreValues, with_items}
+use Rattle.record_layouts.specs.Held.{Records, with_items}
 use Rattle.record_layouts.specs.Pages.{is_live}
-use Rattle.record_layouts.specs.Head.{FitsHead}
-use Rattle.record_layouts.specs.Proc.{FitsProc}
-use Rattle.record_layouts.specs.Exit.{FitsExit}
-use Rattle.record_layouts.specs.Spelling.{IsStatus}
-use Rattle.record_layouts.specs.Decode.{slot_by, next_by}
-use Rattle.record_layouts.specs.Sound.{IsIn, AreNumbered, AreInCalls, AreMapped, AreSound, is_used}
+use Rattle.record_layouts.specs.Decode.{slot_by}
+use Rattle.record_layouts.specs.Sound.{IsIn, AreNumbered, is_used}
 use Rattle.process_table.specs.Patches.{ended_items, ended_process, ended_exit}
-use Rattle.process_table.proofs.Ended.{ended_fits}
 use Rattle.process_table.proofs.Regions.{changed}
-use Rattle.process_table.proofs.Kept.{set_here, set_other, same_or_not, Was, AllWere, kin_itself, calls_stay, mapped_stay}
+use Rattle.process_table.proofs.Kept.{set_here, set_other, same_or_not, AllWere, kin_itself}
 
 -- the head once a trap is done
 abbrev pub served : HeadRec → (trap pid : ℕ) → HeadRec

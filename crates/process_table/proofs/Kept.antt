@@ -1,8 +1,7 @@
 -- What is sound of records stays so where live processes keep their pids, parents, pages and descriptors.
-use Rattle.std.proofs.Common.{◌≡◌, ◌≢◌, ◌⊎◌, ◌==◌, ◌&&◌, ◌||◌, ℕ, ◌+◌, ◌-◌, ◌*◌, ◌<◌, ◌≤◌, Bool, true, false, Option, Some, None, IfSome, is_some, slice_index, inl, inr, refl, sym, ap, ◌∙◌, arith}
+use Rattle.std.proofs.Common.{◌≡◌, ◌≢◌, ◌⊎◌, ◌==◌, ℕ, ◌+◌, ◌*◌, true, false, Option, inl, inr, refl, sym, ◌∙◌, arith}
 use Rattle.std.proofs.lemmas.Bool.{cases_Bool}
 use Rattle.std.proofs.lemmas.Bool.Decides.{nat_tests}
-use Rattle.std.proofs.lemmas.Grind.{common_steps}
 use Rattle.ow_base.specs.Words.{updated}
 use Rattle.record_layouts.specs.declared.head.HeadRec.{HeadRec}
 use Rattle.record_layouts.specs.declared.proc.ProcRec.{ProcRec}
@@ -10,8 +9,8 @@ use Rattle.record_layouts.specs.declared.sig.SigRec.{SigRec}
 use Rattle.record_layouts.specs.declared.desc.DescRec.{DescRec}
 use Rattle.record_layouts.specs.declared.exit.ExitRec.{ExitRec}
 use Rattle.record_layouts.specs.Held.{Records}
-use Rattle.record_layouts.specs.Pages.{is_live, is_mapped, region_of, high_place}
-use Rattle.record_layouts.specs.Sound.{IsIn, AreNumbered, AreInCalls, IsInCall, IsTransfer, AreMapped, AreSound, is_table_place}
+use Rattle.record_layouts.specs.Pages.{is_live, high_place}
+use Rattle.record_layouts.specs.Sound.{IsIn, AreInCalls, IsInCall, IsTransfer, AreMapped, is_table_place}
 use Rattle.process_table.proofs.Regions.{changed, SameRegions, region_same, mapped_stays, mapped_same}
 
 -- a function that is changed at one place

@@ -15,3 +15,4 @@ pub mod ChangedUnix
 pub mod Saving
 pub mod Running
 pub mod Chosen
+pub mod Signalling

@@ -1,5 +1,5 @@
 -- The bits of pending signals.
-use Rattle.std.proofs.Common.{◌≡◌, ◌≢◌, ℕ, ◌+◌, ◌-◌, ◌*◌, ◌/◌, ◌%◌, ◌^◌, ◌<◌, ◌≤◌, bit_and, refl, sym, ap, ◌∙◌, arith}
+use Rattle.std.proofs.Common.{◌≡◌, ℕ, ◌%◌, bit_and, arith}
 use Rattle.std.proofs.lemmas.Nat.{and_le_l, and_mod}
 use Rattle.record_layouts.specs.declared.sig.SigRec.{SigRec}
 use Rattle.record_layouts.specs.Sig.{FitsSig}

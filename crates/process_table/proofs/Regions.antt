@@ -1,7 +1,6 @@
 -- The pages of a process are a matter of its regions, of tables and of the words that name owners.
-use Rattle.std.proofs.Common.{◌≡◌, ◌==◌, ◌&&◌, ℕ, zero, suc, ◌+◌, ◌-◌, ◌*◌, ◌/◌, ◌%◌, ◌<◌, ◌≤◌, Bool, true, false, Option, Some, None, is_some, inl, inr, refl, sym, ap, ◌∙◌, arith}
+use Rattle.std.proofs.Common.{◌≡◌, ◌&&◌, ℕ, zero, suc, ◌+◌, ◌/◌, ◌%◌, Bool, true, Option, is_some, refl, ap, ◌∙◌, arith}
 use Rattle.ow_base.specs.Sv32.{WordMap}
-use Rattle.ow_base.specs.Pages.{Pages}
 use Rattle.ow_base.specs.declared.machine.Rights.{Rights}
 use Rattle.record_layouts.specs.declared.head.HeadRec.{HeadRec}
 use Rattle.record_layouts.specs.declared.proc.ProcRec.{ProcRec}

@@ -1,8 +1,7 @@
 -- Which processes can run, by records and in the Unix.
-use Rattle.std.proofs.Common.{◌≡◌, ◌≢◌, ◌⊎◌, ◌==◌, ◌&&◌, ◌||◌, if◌then◌else◌, ℕ, zero, suc, ◌+◌, ◌-◌, ◌%◌, ◌<◌, ◌≤◌, Bool, true, false, nat_lt, not, List, [], ◌∷◌, map, Option, Some, None, IfSome, is_some, slice_index, slice_get, inl, inr, refl, sym, ap, subst, ◌∙◌, arith}
+use Rattle.std.proofs.Common.{◌≡◌, ◌≢◌, ◌⊎◌, ◌==◌, ◌||◌, ℕ, zero, suc, ◌+◌, ◌-◌, ◌%◌, ◌<◌, ◌≤◌, Bool, true, false, not, List, [], ◌∷◌, map, Option, Some, None, IfSome, is_some, slice_index, slice_get, inl, inr, refl, sym, ap, subst, ◌∙◌, arith}
 use Rattle.std.proofs.lemmas.Bool.{cases_Bool}
 use Rattle.std.proofs.lemmas.Bool.Decides.{nat_tests}
-use Rattle.std.proofs.lemmas.Grind.{common_steps}
 use Rattle.ow_base.specs.Sv32.{WordMap}
 use Rattle.ow_base.specs.UserStep.{register}
 use Rattle.ow_base.specs.declared.machine.Now.{Now}
@@ -10,25 +9,25 @@ use Rattle.record_layouts.specs.declared.proc.ProcRec.{ProcRec}
 use Rattle.record_layouts.specs.declared.sig.SigRec.{SigRec}
 use Rattle.record_layouts.specs.declared.desc.DescRec.{DescRec}
 use Rattle.record_layouts.specs.declared.term.TermRec.{TermRec}
-use Rattle.record_layouts.specs.Unix.{Unix, Process, EndedChild, Description, Object, OnFile, OnTty, Terminal, CallState, Out, In, in_use, is_named, is_named_by, is_among, is_this}
-use Rattle.record_layouts.specs.Calls.{argument, description_of, flat}
-use Rattle.record_layouts.specs.Choice.{Keys, least_from, is_any, deliverable, is_child_of, is_ended_child_of, has_ended_child, has_child, read_from, read_goes_on, goes_on, can_run, is_runnable}
+use Rattle.record_layouts.specs.Unix.{Process, in_use, is_named, is_named_by, is_among, is_this}
+use Rattle.record_layouts.specs.Calls.{description_of}
+use Rattle.record_layouts.specs.Choice.{least_from, is_any, deliverable, is_child_of, is_ended_child_of, has_ended_child, has_child, read_goes_on, goes_on}
 use Rattle.record_layouts.specs.Held.{Records}
 use Rattle.record_layouts.specs.Pages.{is_live}
 use Rattle.record_layouts.specs.Desc.{FitsDesc}
 use Rattle.record_layouts.specs.Proc.{FitsProc, FitsEnded}
-use Rattle.record_layouts.specs.Decode.{InKernel, descriptor_of, call_of, is_pending, process_of, process_at, processes_of, is_ended_as, ended_by, ended_in, ended_of, object_of, description_by, terminal_by, unix_of}
-use Rattle.record_layouts.specs.Sound.{IsIn, IsTransfer, IsInCall, AreNumbered, AreSound}
+use Rattle.record_layouts.specs.Decode.{InKernel, descriptor_of, is_pending, process_of, process_at, processes_of, is_ended_as, ended_by, ended_in, ended_of, description_by, unix_of}
+use Rattle.record_layouts.specs.Sound.{IsIn, IsTransfer, AreNumbered, AreSound}
 use Rattle.process_table.specs.Slots.{has_such, is_live_child, is_ended_child}
-use Rattle.process_table.specs.Choosing.{keys_of, next_signal, signal_by, tty_goes_on, read_by, named_by, description_in, wait_goes_on, call_goes_on, is_runnable_in}
-use Rattle.process_table.specs.Least.{IsLeast, NonePasses}
+use Rattle.process_table.specs.Choosing.{keys_of, next_signal, signal_by, read_by, named_by, description_in, wait_goes_on, call_goes_on}
+use Rattle.process_table.specs.Least.{NonePasses}
 use Rattle.process_table.proofs.Least.{least_found, least_passes, least_within, any_found, any_passing, Passing}
 use Rattle.process_table.proofs.Holding.{such_found, such_passing}
 use Rattle.process_table.proofs.EndedUnix.{ended_there}
 use Rattle.process_table.proofs.Seats.{Missing, Living, living, found_in, pid_range}
 
 -- two tests of which each follows from the other
-same_tests : (a b : Bool) → (a ≡ true → b ≡ true) → (b ≡ true → a ≡ true) → a ≡ b
+pub same_tests : (a b : Bool) → (a ≡ true → b ≡ true) → (b ≡ true → a ≡ true) → a ≡ b
 same_tests true b there back = sym (there refl)
 same_tests false true there back = back refl
 same_tests false false there back = refl
@@ -271,5 +270,24 @@ call_is r words tapes steps traps now slot process sound is state = elim (sound.
         let three : (process.call == 3) ≡ false = grind (arith, nat_tests, wait.0) in
         let ten : (process.call == 10) ≡ true = grind (arith, nat_tests, wait.0) in
         rw (two, three, ten) (wait_is r words tapes steps traps slot process sound is)
+  ]
+]
+
+-- a signal that goes next is one of 1 to 15
+pub signal_range : (process : ProcRec) (signals : SigRec) (signal : ℕ) → next_signal process signals ≡ Some signal → (1 ≤ signal) × (signal < 16)
+unfolding next_signal
+signal_range process signals signal next = elim (cases_Bool (is_pending (Some signals) 9)) [
+  | inl kill ↦
+      let nine : Some 9 ≡ Some signal = rw kill at next in
+      let same : 9 ≡ signal = cc in
+      (omega (arith, same), omega (arith, same))
+  | inr other ↦ elim (cases_Bool (process.flags % 2 == 1)) [
+    | inl runs ↦
+        let none : None ≡ Some signal = rw runs at (rw other at next) in
+        absurd (cc none)
+    | inr quiet ↦
+        let found : least_from (is_pending (Some signals)) 1 15 ≡ Some signal = rw quiet at (rw other at next) in
+        let within = least_within (is_pending (Some signals)) 1 15 signal found in
+        (within.0, omega (arith, within.1))
   ]
 ]

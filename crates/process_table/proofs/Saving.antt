@@ -1,27 +1,24 @@
 -- A bank that is saved: in the Unix its trap counts, and nothing else changes.
-use Rattle.std.proofs.Common.{◌≡◌, ◌==◌, ℕ, ◌+◌, ◌<◌, ◌≤◌, Bool, true, false, List, Option, Some, None, IfSome, is_some, inl, inr, refl, sym, ap, subst, ◌∙◌, arith}
+use Rattle.std.proofs.Common.{◌≡◌, ◌==◌, ℕ, ◌+◌, true, List, Option, Some, IfSome, inl, inr, refl, sym, ap, subst, ◌∙◌, arith}
 use Rattle.std.proofs.lemmas.Bool.Decides.{nat_tests}
-use Rattle.std.proofs.lemmas.Grind.{common_steps}
 use Rattle.ow_base.specs.Sv32.{WordMap}
 use Rattle.ow_base.specs.Words.{updated}
 use Rattle.ow_base.specs.declared.machine.Bank.{Bank}
 use Rattle.record_layouts.specs.declared.head.HeadRec.{HeadRec}
 use Rattle.record_layouts.specs.declared.proc.ProcRec.{ProcRec}
-use Rattle.record_layouts.specs.declared.sig.SigRec.{SigRec}
-use Rattle.record_layouts.specs.Unix.{Unix, Process}
-use Rattle.record_layouts.specs.Calls.{trapped, with_process}
+use Rattle.record_layouts.specs.Unix.{Process}
+use Rattle.record_layouts.specs.Calls.{trapped}
 use Rattle.record_layouts.specs.Held.{Records, with_items}
 use Rattle.record_layouts.specs.Pages.{is_live, region_of, pages_of, frame_of, entry_for}
 use Rattle.record_layouts.specs.Proc.{FitsProc, FitsLive}
-use Rattle.record_layouts.specs.Decode.{Context, InKernel, InUser, process_of, process_at, processes_of, with_bank, unix_of}
-use Rattle.record_layouts.specs.Sound.{IsIn, AreNumbered, AreSound}
+use Rattle.record_layouts.specs.Decode.{InKernel, InUser, process_of, processes_of, with_bank, unix_of}
+use Rattle.record_layouts.specs.Sound.{IsIn, AreSound}
 use Rattle.process_table.specs.Patches.{saved_items, saved_process}
 use Rattle.process_table.proofs.Ended.{live_fits}
 use Rattle.process_table.proofs.Kept.{IsKin, set_here, same_or_not, set_other}
 use Rattle.process_table.proofs.Seats.{found_in}
 use Rattle.process_table.proofs.Changes.{IsChange, AreFor, changed_records, change_sound}
 use Rattle.process_table.proofs.ChangedUnix.{changed_unix}
-use Rattle.process_table.proofs.EndedUnix.{IsOf}
 
 pub saved_are : (r : Records) (head : HeadRec) (slot : ℕ) (process : ProcRec) (bank : Bank) (trap : ℕ)
     → with_items r (saved_items head slot process bank trap) ≡ changed_records r head slot process (saved_process process bank) r.sigs trap

@@ -1,18 +1,14 @@
 -- Which pid is in which slot, and how a live process decodes.
-use Rattle.std.proofs.Common.{◌≡◌, ◌≢◌, ◌⊎◌, ◌==◌, ℕ, ◌+◌, ◌-◌, ◌<◌, ◌≤◌, Bool, true, false, Option, Some, None, is_some, inl, inr, refl, sym, ap, subst, ◌∙◌, arith}
+use Rattle.std.proofs.Common.{◌≡◌, ◌⊎◌, ◌==◌, ℕ, ◌≤◌, true, false, Option, Some, None, is_some, inl, inr, refl, ap, subst, arith}
 use Rattle.std.proofs.lemmas.Bool.{cases_Bool}
 use Rattle.std.proofs.lemmas.Bool.Decides.{nat_tests}
-use Rattle.std.proofs.lemmas.Grind.{common_steps}
 use Rattle.ow_base.specs.Sv32.{WordMap}
 use Rattle.record_layouts.specs.declared.proc.ProcRec.{ProcRec}
-use Rattle.record_layouts.specs.declared.exit.ExitRec.{ExitRec}
-use Rattle.record_layouts.specs.Unix.{Process}
-use Rattle.record_layouts.specs.Choice.{least_from}
-use Rattle.record_layouts.specs.Held.{Records, AreComplete, AreValues}
+use Rattle.record_layouts.specs.Held.{Records, AreValues}
 use Rattle.record_layouts.specs.Pages.{is_live, is_mapped}
-use Rattle.record_layouts.specs.Proc.{FitsProc, FitsLive}
-use Rattle.record_layouts.specs.Decode.{slot_by, is_number, pid_in, decodes, process_by, process_in, process_of, process_at}
-use Rattle.record_layouts.specs.Sound.{IsIn, AreNumbered, AreMapped, AreSound}
+use Rattle.record_layouts.specs.Proc.{FitsProc}
+use Rattle.record_layouts.specs.Decode.{slot_by, is_number, pid_in, decodes, process_of, process_at}
+use Rattle.record_layouts.specs.Sound.{IsIn, AreNumbered, AreSound}
 use Rattle.process_table.specs.Least.{IsLeast, NonePasses}
 use Rattle.process_table.proofs.Least.{least_found}
 use Rattle.process_table.proofs.Ended.{live_fits}

@@ -1,12 +1,10 @@
 -- What is done with the process that is chosen.
-use Rattle.std.proofs.Common.{◌≡◌, ◌==◌, ℕ, ◌<◌, ◌≤◌, Bool, true, false, Option, Some, None, IfSome, inl, inr, refl, sym, ap, ◌∙◌, arith}
-use Rattle.std.proofs.lemmas.Grind.{common_steps}
+use Rattle.std.proofs.Common.{◌≡◌, ◌==◌, ℕ, true, Option, Some, None, IfSome, inl, inr, refl, sym}
 use Rattle.std.proofs.lemmas.Bool.{cases_Bool}
 use Rattle.ow_base.specs.declared.machine.Now.{Now}
 use Rattle.record_layouts.specs.declared.proc.ProcRec.{ProcRec}
 use Rattle.record_layouts.specs.Held.{Records}
 use Rattle.process_table.specs.declared.choice.Choice.{Choice}
-use Rattle.process_table.specs.declared.choice.Choice.TheVariants as choice
 use Rattle.process_table.specs.Choosing.{IsChosen, IsChoice, IsWork, is_ready, is_ready_one, signal_by, work_of}
 
 -- the work is one of three

@@ -1,5 +1,5 @@
 -- Which process is next, by its records.
-use Rattle.std.specs.Prelude.{◌≡◌, ℕ, ◌+◌, ◌-◌, ◌%◌, ◌<◌, ◌≤◌, ◌⊎◌, Bool, true, false, nat_lt, not, ◌==◌, ◌&&◌, ◌||◌, if◌then◌else◌, slice_index, Option, Some, None, is_some}
+use Rattle.std.specs.Prelude.{◌≡◌, ℕ, ◌-◌, ◌%◌, ◌<◌, ◌≤◌, ◌⊎◌, Bool, true, false, nat_lt, not, ◌==◌, ◌&&◌, ◌||◌, if◌then◌else◌, slice_index, Option, Some, None, is_some, IfSome}
 use Rattle.ow_base.specs.UserStep.{register}
 use Rattle.ow_base.specs.declared.machine.Now.{Now}
 use Rattle.record_layouts.specs.declared.head.HeadRec.{HeadRec}
@@ -71,6 +71,14 @@ is_ready_one r now above slot None = false
 unfoldable pub is_ready : Records → Now → (above slot : ℕ) → Bool
 is_ready r now above slot = is_ready_one r now above slot (r.procs slot)
 
+-- the slot is ready, and this is its process
+abbrev pub IsReadyAs : Records → Now → (above slot : ℕ) → ProcRec → Type 0
+IsReadyAs r now above slot process = (r.procs slot ≡ Some process) × (is_ready r now above slot ≡ true)
+
+-- a signal goes to the process of the slot
+abbrev pub HasSignal : Records → (slot : ℕ) → Type 0
+HasSignal r slot = IfSome (r.procs slot) (λ process. is_some (signal_by process (r.sigs slot)) ≡ true)
+
 -- the pid of a record
 abbrev pub pid_by : Option ProcRec → ℕ
 pid_by (Some process) = process.pid
@@ -99,6 +107,10 @@ IsChosen r now slot = IsNext r now (last_pid r.head) slot ⊎ (IsNone r now (las
 abbrev pub work_of : (slot : ℕ) → (signal : Option ℕ) → (state : ℕ) → Choice
 work_of slot (Some signal) state = choice.Signal slot
 work_of slot None state = if state == 2 then choice.Piece slot else choice.User slot
+
+-- this is done with the process of the slot
+abbrev pub IsWorkOf : Records → (slot : ℕ) → Choice → Type 0
+IsWorkOf r slot choice = IfSome (r.procs slot) (λ process. choice ≡ work_of slot (signal_by process (r.sigs slot)) process.state)
 
 -- the process is the chosen one, and this is what is done with it
 pub record IsWork (r : Records) (now : Now) (slot : ℕ) (choice : Choice) : Type 0 where

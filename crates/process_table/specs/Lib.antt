@@ -4,5 +4,6 @@ pub mod Least
 pub mod Slots
 pub mod Choosing
 pub mod Patches
+pub mod Meaning
 pub mod Small
 pub mod SmallValues

@@ -1,5 +1,5 @@
 -- The records that are set when a trap of a process ends.
-use Rattle.std.specs.Prelude.{◌≡◌, ℕ, ◌+◌, ◌-◌, ◌*◌, ◌/◌, ◌%◌, ◌^◌, ◌==◌, if◌then◌else◌, List, [], ◌∷◌, replicate, slice_index, bit_and, IfSome}
+use Rattle.std.specs.Prelude.{◌≡◌, ℕ, ◌+◌, ◌-◌, ◌*◌, ◌/◌, ◌^◌, ◌==◌, if◌then◌else◌, List, [], ◌∷◌, replicate, slice_index, bit_and, IfSome}
 use Rattle.std.specs.Int.{bit_not, w32}
 use Rattle.ow_base.specs.Words.{wrapped, minus}
 use Rattle.ow_base.specs.UserStep.{with_register}

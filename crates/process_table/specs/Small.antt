@@ -1,7 +1,6 @@
 -- The records of a small view for tests: a process in each of sixteen slots, told by one number, and nothing else.
-use Rattle.std.specs.Prelude.{ℕ, Bool, ◌+◌, ◌*◌, ◌%◌, ◌^◌, nat_lt, ◌==◌, if◌then◌else◌, List, ◌∷◌, replicate, slice_index, Option, Some, None}
+use Rattle.std.specs.Prelude.{ℕ, Bool, ◌+◌, ◌*◌, ◌%◌, ◌^◌, nat_lt, ◌==◌, if◌then◌else◌, List, ◌∷◌, replicate, slice_index, Some, None}
 use Rattle.record_layouts.specs.declared.proc.ProcRec.{ProcRec}
-use Rattle.record_layouts.specs.declared.sig.SigRec.{SigRec}
 use Rattle.record_layouts.specs.Held.{Records}
 use Rattle.process_table.specs.Patches.{blank_bank}
 

@@ -1,13 +1,12 @@
 -- The records of the small view can be spelled.
-use Rattle.std.proofs.Common.{◌≡◌, ◌==◌, if◌then◌else◌, ℕ, zero, suc, ◌+◌, ◌*◌, ◌%◌, ◌<◌, ◌≤◌, Bool, true, false, List, ◌∷◌, replicate, slice_index, EachIndex, inl, inr, refl, sym, ap, ◌∙◌, arith}
+use Rattle.std.proofs.Common.{◌==◌, if◌then◌else◌, ℕ, zero, suc, ◌<◌, ◌≤◌, Bool, true, false, List, ◌∷◌, replicate, slice_index, inl, inr, refl, arith}
 use Rattle.std.proofs.lemmas.Bool.{cases_Bool}
 use Rattle.std.proofs.lemmas.List.{get_or-replicate}
 use Rattle.std.proofs.lemmas.Grind.{common_steps}
-use Rattle.record_layouts.specs.declared.proc.ProcRec.{ProcRec}
-use Rattle.record_layouts.specs.Held.{Records, AreValues}
-use Rattle.record_layouts.specs.Proc.{FitsProc, FitsLive, FitsFree, IsOver, IsBlankBank}
+use Rattle.record_layouts.specs.Held.{AreValues}
+use Rattle.record_layouts.specs.Proc.{FitsProc, FitsLive, IsOver, IsBlankBank}
 use Rattle.record_layouts.specs.Exit.{FitsExit}
-use Rattle.record_layouts.specs.Spelling.{AreZero, IsStatus}
+use Rattle.record_layouts.specs.Spelling.{AreZero}
 use Rattle.process_table.specs.Patches.{blank_bank}
 use Rattle.process_table.specs.Small.{pid_in, parent_of, over_process, live_process, process_by, small_records}
 

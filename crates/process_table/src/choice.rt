@@ -3,7 +3,8 @@ ghost use Rattle.std.specs.Prelude.{◌≡◌, ◌<◌, ◌≤◌, IfSome, IfNon
 ghost use Rattle.record_layouts.specs.Pages.{is_live};
 ghost use Rattle.record_layouts.specs.Proc.{FitsProc};
 ghost use Rattle.record_layouts.specs.Desc.{FitsDesc};
-ghost use Rattle.process_table.specs.Choosing.{IsChoice, IsNext, IsNone, call_goes_on, description_in, is_ready, is_runnable_in, last_pid, read_by, signal_by, tty_goes_on, wait_goes_on, work_of};
+ghost use Rattle.process_table.specs.Choosing.{IsChoice, IsNext, IsNone, IsReadyAs, IsWorkOf};
+ghost use Rattle.process_table.specs.Choosing.{call_goes_on, description_in, is_ready, is_runnable_in, last_pid, read_by, tty_goes_on, wait_goes_on};
 
 use crate::signals::signal_of;
 use crate::slots::{IN_CALL, OUTSIDE, SLOTS, Sought, has_such, is_live};
@@ -120,7 +121,7 @@ fn is_runnable<V: RecordView>(view: &V, now: &Now, slot: u32, process: &ProcRec)
 #[tactic(auto, unfolding(crate::specs::Choosing::is_ready))]
 fn ready_in<V: RecordView>(view: &V, now: &Now, above: u32, slot: u32) -> Option<ProcRec>
     requires { slot < 16 }
-    ensures ready { IfSome result (λ process. ((V.records view.now).procs slot ≡ Some process) × (is_ready (V.records view.now) now.now above slot ≡ true)) }
+    ensures ready { IfSome result (IsReadyAs (V.records view.now) now.now above slot) }
     ensures none { IfNone result (is_ready (V.records view.now) now.now above slot ≡ false) }
 {
     let process = view.proc(slot)?;
@@ -151,7 +152,7 @@ fn next_above<V: RecordView>(view: &V, now: &Now, above: u32) -> Option<u32>
 // What is done with the chosen process of a slot.
 fn work_of<V: RecordView>(view: &V, slot: u32) -> Choice
     requires { slot < 16 }
-    ensures { IfSome ((V.records view.now).procs slot) (λ process. result ≡ work_of slot (signal_by process ((V.records view.now).sigs slot)) process.state) }
+    ensures { IsWorkOf (V.records view.now) slot result }
 {
     let Some(process) = view.proc(slot) else {
         return Choice::Idle;

@@ -3,6 +3,7 @@
 #![tactic(auto)]
 
 mod choice;
+mod laws;
 mod patches;
 mod signals;
 mod slots;
@@ -10,6 +11,9 @@ mod slots;
 mod tests;
 
 pub use choice::{Choice, choose};
+pub use laws::{
+    an_end_is_an_end, choices_agree, saves_only_count, signals_agree, sound_records_stay_sound,
+};
 pub use ow_base::{Bank, Now};
 pub use patches::{end_process, save_bank, take_signal};
 pub use record_layouts::{Patch, RecordView};

@@ -5,8 +5,9 @@ ghost use Rattle.record_layouts.specs.Pages.{is_live};
 ghost use Rattle.record_layouts.specs.Patch.{IsPatch};
 ghost use Rattle.record_layouts.specs.Proc.{FitsProc};
 ghost use Rattle.record_layouts.specs.Spelling.{IsStatus};
-ghost use Rattle.process_table.specs.Choosing.{signal_by};
-ghost use Rattle.process_table.specs.Patches.{IsEnding, IsSaving, IsSignalling, blank_bank, ended_items, ended_process, head_item, in_handler, interrupted, process_item, saved_process, signalled_process, without_signal};
+ghost use Rattle.process_table.specs.Choosing.{HasSignal};
+ghost use Rattle.process_table.specs.Patches.{IsEnding, IsSaving, IsSignalling};
+ghost use Rattle.process_table.specs.Patches.{blank_bank, ended_items, ended_process, head_item, in_handler, interrupted, process_item, saved_process, signalled_process, without_signal};
 ghost use Rattle.process_table.specs.Slots.{is_live_one};
 
 use crate::signals::{next_signal, without_signal};
@@ -196,7 +197,7 @@ pub fn take_signal<V: RecordView>(view: &V, slot: u32, trap: u32) -> Patch
     requires head { is_some (V.records view.now).head ≡ true }
     requires slot { slot < 16 }
     requires live { is_live_one ((V.records view.now).procs slot) ≡ true }
-    requires signal { IfSome ((V.records view.now).procs slot) (λ process. is_some (signal_by process ((V.records view.now).sigs slot)) ≡ true) }
+    requires signal { HasSignal (V.records view.now) slot }
     ensures items { IsSignalling (V.records view.now) slot trap result.items.items }
     ensures patch { IsPatch result.items.items }
 {

@@ -1,4 +1,4 @@
-use Rattle.std.proofs.Common.{◌≡◌, ℕ, Some, inl, inr, arith, sym}
+use Rattle.std.proofs.Common.{inl, inr}
 use Rattle.process_table.specs.Choosing.{IsNext, IsNone, last_pid}
 use Rattle.process_table.proofs.Working.{worked}
 use Rattle.process_table.proofs.choice.choose.Goals as goal

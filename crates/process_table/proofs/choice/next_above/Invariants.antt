@@ -1,4 +1,4 @@
-use Rattle.std.proofs.Common.{◌≡◌, ℕ, ◌<◌, ◌≤◌, Bool, true, false, Option, Some, None, IfSome, IfNone}
+use Rattle.std.proofs.Common.{◌≡◌, ℕ, ◌<◌, ◌≤◌, true, false, IfSome, IfNone}
 use Rattle.ow_base.specs.declared.machine.Now.{Now}
 use Rattle.record_layouts.specs.Held.{Records}
 use Rattle.process_table.specs.Choosing.{is_ready, pid_by}

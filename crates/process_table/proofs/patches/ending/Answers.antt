@@ -1,5 +1,3 @@
-use Rattle.std.proofs.Common.{◌≡◌, sym, arith}
-use Rattle.record_layouts.specs.Proc.{FitsProc}
 use Rattle.process_table.proofs.Ended.{ended_fits}
 use Rattle.process_table.proofs.patches.ending.Goals as goal
 

@@ -1,4 +1,4 @@
-use Rattle.std.proofs.Common.{ℕ, ◌≤◌, Some}
+use Rattle.std.proofs.Common.{◌≤◌, Some}
 use Rattle.record_layouts.specs.Decode.{is_pending}
 use Rattle.process_table.specs.Least.{NonePasses}
 use Rattle.process_table.proofs.signals.least_pending.Given as goal

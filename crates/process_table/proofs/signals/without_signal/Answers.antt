@@ -1,4 +1,4 @@
-use Rattle.std.proofs.Common.{◌≡◌, ℕ, ◌*◌, ◌%◌, ◌^◌, ◌-◌, ap, sym, bit_and, arith}
+use Rattle.std.proofs.Common.{◌≡◌, ℕ, ◌*◌, ◌%◌, ◌^◌, ◌-◌, ap, bit_and, arith}
 use Rattle.std.proofs.lemmas.Nat.{one_shl}
 use Rattle.record_layouts.specs.declared.sig.SigRec.{SigRec}
 use Rattle.process_table.proofs.Pending.{fewer_fit}

@@ -1,6 +1,6 @@
-use Rattle.std.proofs.Common.{◌≡◌, ℕ, ◌<◌, sym, true, false, arith, Some}
+use Rattle.std.proofs.Common.{◌≡◌, sym, true, arith}
 use Rattle.std.proofs.lemmas.Grind.{common_steps}
-use Rattle.process_table.specs.Slots.{has_such, is_sought}
+use Rattle.process_table.specs.Slots.{is_sought}
 use Rattle.process_table.proofs.Holding.{such_found, such_none}
 use Rattle.process_table.proofs.slots.has_such.Goals as goal
 

@@ -1,0 +1,82 @@
+//! What the choice and the patches are in the Unix that the records stand for. The functions do nothing: their
+//! contracts are the laws.
+
+ghost use Rattle.std.specs.Prelude.{◌≡◌, ℕ, ◌+◌, ◌-◌, List, Bool, Some, None};
+ghost use Rattle.ow_base.specs.Sv32.{WordMap};
+ghost use Rattle.ow_base.specs.declared.machine.Bank.{Bank};
+ghost use Rattle.ow_base.specs.declared.machine.Now.{Now};
+ghost use Rattle.record_layouts.specs.declared.head.HeadRec.{HeadRec};
+ghost use Rattle.record_layouts.specs.declared.proc.ProcRec.{ProcRec};
+ghost use Rattle.record_layouts.specs.declared.sig.SigRec.{SigRec};
+ghost use Rattle.record_layouts.specs.Calls.{ended_as, trapped};
+ghost use Rattle.record_layouts.specs.Choice.{chosen, deliverable, is_any_live};
+ghost use Rattle.record_layouts.specs.Decode.{Context, InKernel, InUser, call_of, process_of, unix_of};
+ghost use Rattle.record_layouts.specs.Held.{Records, with_items};
+ghost use Rattle.record_layouts.specs.Signals.{signalled};
+ghost use Rattle.record_layouts.specs.Sound.{AreSound, IsIn};
+ghost use Rattle.record_layouts.specs.Spelling.{IsStatus};
+ghost use Rattle.record_layouts.specs.Unix.{Process};
+ghost use Rattle.process_table.specs.Choosing.{IsRest, IsWork, keys_of, next_signal, signal_by};
+ghost use Rattle.process_table.specs.Meaning.{IsOf};
+ghost use Rattle.process_table.specs.Patches.{ended_items, saved_items, signal_items};
+ghost use Rattle.process_table.specs.declared.choice.Choice.{Choice};
+
+/// A process that ends by records has ended in the Unix, with this status word. The processor was in the kernel or in
+/// this process.
+pub const fn an_end_is_an_end()
+    ensures { (r : Records) (head : HeadRec) (slot : ℕ) (process : ProcRec) (status trap : ℕ) (words : WordMap)
+        (tapes : ℕ → List ℕ) (context : Context) (steps traps : ℕ) (p : Process)
+        → AreSound r → r.head ≡ Some head → IsIn r slot process → IsStatus status → IsOf context process.pid
+        → (unix_of r words tapes context steps traps).processes process.pid ≡ Some p
+        → unix_of (with_items r (ended_items head slot process status trap)) words tapes InKernel (steps + 1) (traps + 1)
+        ≡ ended_as (trapped (unix_of r words tapes context steps traps) process.pid) process.pid p status }
+{}
+
+/// To save the bank of a process that was in user mode is a trap of it in the Unix, and nothing else.
+pub const fn saves_only_count()
+    ensures { (r : Records) (head : HeadRec) (slot : ℕ) (process : ProcRec) (bank : Bank) (trap : ℕ) (words : WordMap)
+        (tapes : ℕ → List ℕ) (count steps traps : ℕ)
+        → AreSound r → r.head ≡ Some head → IsIn r slot process → process.state ≡ 1
+        → unix_of (with_items r (saved_items head slot process bank trap)) words tapes InKernel (steps + 1) (traps + 1)
+        ≡ trapped (unix_of r words tapes (InUser process.pid count bank) steps traps) process.pid }
+{}
+
+/// A signal that goes to a process by records is the next one in the Unix, and does there what it does in the Unix.
+pub const fn signals_agree()
+    ensures next { (r : Records) (words : WordMap) (slot : ℕ) (process : ProcRec) → AreSound r → IsIn r slot process
+        → deliverable (process_of r words slot process) ≡ signal_by process (r.sigs slot) }
+    ensures does { (r : Records) (head : HeadRec) (slot : ℕ) (process : ProcRec) (signals : SigRec) (signal trap : ℕ)
+        (words : WordMap) (tapes : ℕ → List ℕ) (steps traps : ℕ)
+        → AreSound r → r.head ≡ Some head → IsIn r slot process → r.sigs slot ≡ Some signals
+        → next_signal process signals ≡ Some signal
+        → unix_of (with_items r (signal_items head slot process signals signal trap)) words tapes InKernel (steps + 1) (traps + 1)
+        ≡ signalled (unix_of r words tapes InKernel steps traps) process.pid (process_of r words slot process) signal }
+{}
+
+/// The process that is chosen by records is the one that the Unix chooses, and where none is chosen by records the Unix
+/// chooses none.
+pub const fn choices_agree()
+    ensures work { (r : Records) (words : WordMap) (tapes : ℕ → List ℕ) (steps traps : ℕ) (now : Now) (slot : ℕ) (choice : Choice)
+        → AreSound r → (is : IsWork r now slot choice)
+        → chosen (keys_of now) (unix_of r words tapes InKernel steps traps) ≡ Some is.process.pid }
+    ensures rest { (r : Records) (words : WordMap) (tapes : ℕ → List ℕ) (steps traps : ℕ) (now : Now) (is_any : Bool)
+        → AreSound r → IsRest r now is_any → chosen (keys_of now) (unix_of r words tapes InKernel steps traps) ≡ None }
+    ensures live { (r : Records) (words : WordMap) (tapes : ℕ → List ℕ) (steps traps : ℕ) (now : Now) (is_any : Bool)
+        → AreSound r → IsRest r now is_any
+        → is_any_live (unix_of r words tapes InKernel steps traps).processes 1
+        ((unix_of r words tapes InKernel steps traps).next_pid - 1) ≡ is_any }
+{}
+
+/// Sound records stay sound once a patch of this crate is set.
+pub const fn sound_records_stay_sound()
+    ensures ended { (r : Records) (head : HeadRec) (slot : ℕ) (process : ProcRec) (status trap : ℕ)
+        → AreSound r → r.head ≡ Some head → IsIn r slot process → IsStatus status
+        → AreSound (with_items r (ended_items head slot process status trap)) }
+    ensures saved { (r : Records) (head : HeadRec) (slot : ℕ) (process : ProcRec) (bank : Bank) (trap : ℕ)
+        → AreSound r → r.head ≡ Some head → IsIn r slot process → process.state ≡ 1
+        → AreSound (with_items r (saved_items head slot process bank trap)) }
+    ensures signalled { (r : Records) (head : HeadRec) (slot : ℕ) (process : ProcRec) (signals : SigRec) (signal trap : ℕ)
+        → AreSound r → r.head ≡ Some head → IsIn r slot process → r.sigs slot ≡ Some signals
+        → next_signal process signals ≡ Some signal
+        → AreSound (with_items r (signal_items head slot process signals signal trap)) }
+{}
