@@ -8,3 +8,4 @@ pub mod Written
 pub mod Described
 pub mod Served
 pub mod Exported
+pub mod KeptSound
