@@ -9,3 +9,4 @@ pub mod Described
 pub mod Served
 pub mod Exported
 pub mod KeptSound
+pub mod AfterSound
