@@ -26,6 +26,7 @@ use Rattle.syscalls.specs.Planned.{Planned, PlanOnce, PlanWrite, answered_proces
 use Rattle.syscalls.specs.Done.{KeepsSound}
 use Rattle.syscalls.proofs.Becoming.{IsAfter}
 use Rattle.syscalls.proofs.AfterSound.{after_sound}
+use Rattle.syscalls.proofs.Naming.{InWrite}
 
 -- what a process has that a descriptor of it names a description
 pub record IsNamed (r : Records) (words : List ℕ) (descriptor : ℕ) (d : DescRec) : Type 0 where
@@ -144,3 +145,77 @@ module _ (r : Records) (head : HeadRec) (slot : ℕ) (process : ProcRec) (bank :
   written_sound d done write most = elim (eqb_tells done (argument_of saved 2)) [
       inl (last, same) ↦ rw last (answered_sound (argument_of saved 2))
     | inr (more, other) ↦ rw more (staying_sound d done write (omega (arith, most, other))) ]
+
+-- with other records of terminals and rows the same holds
+write_too : (r : Records) (terms : ℕ → Option TermRec) (rows : ℕ → Option RowRec) (process : ProcRec) (d : DescRec) → IsWrite r process d → IsWrite (record r { terms = terms; rows = rows }) process d
+write_too r terms rows process d write = record { descriptor = write.descriptor; named = write.named; there = write.there; allowed = write.allowed; count = write.count }
+
+in_too : (r : Records) (terms : ℕ → Option TermRec) (rows : ℕ → Option RowRec) (slot : ℕ) (process : ProcRec) → IsIn r slot process → IsIn (record r { terms = terms; rows = rows }) slot process
+in_too r terms rows slot process is = record { within = is.within; there = is.there; live = is.live }
+
+module _ (r : Records) (head : HeadRec) (slot : ℕ) (process : ProcRec) (bank : Bank) (trap : ℕ) (sound : AreSound r) (is_head : r.head ≡ Some head) (is : IsIn r slot process) (pages : Pages) where
+
+  abbrev caller_saved : ProcRec
+  caller_saved = saved_process process bank
+
+  pub tty_keeps : (d : DescRec) (tty done : ℕ) → IsWrite r caller_saved d → done < argument_of caller_saved 2 → KeepsSound r (planned_tty pages (caller_with slot trap head caller_saved) tty done)
+  unfolding planned_tty
+  tty_keeps d tty done write left =
+      let count = argument_of caller_saved 2 in
+      let len = tty_piece count done in
+      elim (cases_Bool (is_readable pages (argument_of caller_saved 1 + done) len)) [
+        inl all ↦ rw all (λ terms rows too.
+            written_sound (record r { terms = terms; rows = rows }) head slot process bank trap too is_head (in_too r terms rows slot process is) d (done + len)
+                (write_too r terms rows caller_saved d write) (omega arith))
+      | inr some ↦ rw some (answered_sound r head slot process bank trap sound is_head is (stopped_answer done 14)) ]
+
+  write_keeps : (d : DescRec) → IsNamed r process.descs (argument_of caller_saved 0) d → length process.descs ≡ 8
+      → KeepsSound r (planned_write_on pages (caller_with slot trap head caller_saved) (Some d))
+  unfolding planned_write_on
+  write_keeps d it eight = elim (cases_Bool (is_written d)) [
+      inl writes ↦ elim (cases_Bool (nat_lt 0x7fffffff (argument_of caller_saved 2))) [
+          inl many ↦ rw (writes, many) (answered_sound r head slot process bank trap sound is_head is (minus 22))
+        | inr few ↦ elim (cases_Bool (argument_of caller_saved 2 == 0)) [
+            inl none ↦ rw (writes, few, none) (answered_sound r head slot process bank trap sound is_head is 0)
+          | inr some ↦
+              let count : argument_of caller_saved 2 ≤ 0x7fffffff = grind (arith, nat_tests) in
+              let left : 0 < argument_of caller_saved 2 = grind (arith, nat_tests) in
+              let write : IsWrite r caller_saved d = record { descriptor = omega (arith, it.within, eight); named = it.some; there = it.there; allowed = opens d writes; count = count } in
+              rw (writes, few, some) (tty_keeps d d.index 0 write left) ] ]
+    | inr reads ↦ rw reads (answered_sound r head slot process bank trap sound is_head is (minus 9)) ]
+
+  write_by : (held : Option DescRec) → ((d : DescRec) → held ≡ Some d → IsNamed r process.descs (argument_of caller_saved 0) d) → length process.descs ≡ 8
+      → KeepsSound r (planned_write_on pages (caller_with slot trap head caller_saved) held)
+  unfolding planned_write_on
+  write_by None it eight = answered_sound r head slot process bank trap sound is_head is (minus 9)
+  write_by (Some d) it eight = write_keeps d (it d refl) eight
+
+  pub number_keeps : (number : ℕ) → length process.descs ≡ 8 → KeepsSound r (planned_number r pages (caller_with slot trap head caller_saved) number)
+  unfolding planned_number planned_write
+  number_keeps number eight = elim (cases_Bool (number == 1)) [
+      inl exits ↦
+        let small : argument_of caller_saved 0 % 256 ≤ 0xff = omega arith in
+        rw exits (exited_sound r head slot process bank trap sound is_head is (argument_of caller_saved 0 % 256) (inl small))
+    | inr no_exit ↦ elim (cases_Bool (number == 2)) [
+      inl writes ↦ rw (no_exit, writes) (write_by (named r process.descs (argument_of caller_saved 0)) (λ d it. is_named r process.descs (argument_of caller_saved 0) d it) eight)
+    | inr no_write ↦ elim (cases_Bool (number == 7)) [
+      inl asks ↦ rw (no_exit, no_write, asks) (answered_sound r head slot process bank trap sound is_head is process.pid)
+    | inr no_pid ↦ elim (cases_Bool (number == 18)) [
+      inl yields ↦ rw (no_exit, no_write, no_pid, yields) (yielded_sound r head slot process bank trap sound is_head is)
+    | inr none ↦ rw (no_exit, no_write, no_pid, none) (answered_sound r head slot process bank trap sound is_head is (minus 38)) ] ] ] ]
+
+pub call_keeps : (r : Records) (words : WordMap) (slot trap : ℕ) (head : HeadRec) (process : ProcRec) (bank : Bank) → AreSound r → r.head ≡ Some head → IsIn r slot process → length process.descs ≡ 8
+    → KeepsSound r (planned_call r words slot trap head process bank)
+unfolding planned_call
+call_keeps r words slot trap head process bank sound is_head is eight =
+    number_keeps r head slot process bank trap sound is_head is (pages_of r words slot process) (register bank.regs 17) eight
+
+pub piece_keeps : (r : Records) (words : WordMap) (slot trap : ℕ) (head : HeadRec) (process : ProcRec) → AreSound r → r.head ≡ Some head → IsIn r slot process → InWrite r process
+    → KeepsSound r (planned_piece r words slot trap head process)
+unfolding planned_piece
+piece_keeps r words slot trap head process sound is_head is it =
+    let d = it.description in
+    let t = it.transfer in
+    let write : IsWrite r process d = record { descriptor = t.descriptor; named = t.named; there = t.there; allowed = t.allowed; count = t.count } in
+    subst (λ (held : Option DescRec). KeepsSound r (planned_further (pages_of r words slot process) (caller_with slot trap head process) held)) (sym it.is_named)
+        (tty_keeps r head slot process (bank_of process) trap sound is_head is (pages_of r words slot process) d d.index process.done write t.left)
