@@ -11,11 +11,12 @@ use Rattle.record_layouts.specs.Pages.{is_mapped}
 use Rattle.record_layouts.specs.Decode.{Context, InKernel, InUser, process_of, processes_of, unix_of}
 use Rattle.record_layouts.specs.Sound.{IsIn, IsInCall, AreSound}
 use Rattle.process_table.proofs.EndedUnix.{IsOf}
-use Rattle.syscalls.specs.Done.{IsDone}
+use Rattle.syscalls.specs.Done.{IsDone, KeepsSound}
 use Rattle.syscalls.specs.Planned.{planned_call, planned_piece}
 use Rattle.syscalls.specs.Serving.{AreOnTerminals, CanCall, IsInWrite}
 use Rattle.syscalls.proofs.Naming.{in_write}
 use Rattle.syscalls.proofs.Becoming.{bank_by, caller_decodes}
+use Rattle.syscalls.proofs.KeptSound.{piece_keeps}
 use Rattle.syscalls.proofs.Served.{served_call, served_further}
 
 -- the process of a pid is the one that its records are
@@ -65,3 +66,8 @@ can_call r slot process sound others is = record {
   on_terminals = others;
   mapped = subst (λ (held : Option ProcRec). IfSome held (λ p. is_mapped r slot p ≡ true)) (sym is.there) (sound.mapped.mapped slot process is);
 }
+
+pub further_keeps : (r : Records) (words : WordMap) (slot trap : ℕ) (head : HeadRec) (process : ProcRec) → AreSound r → r.head ≡ Some head → IsIn r slot process
+    → process.state ≡ 2 → process.call ≡ 2 → KeepsSound r (planned_piece r words slot trap head process)
+further_keeps r words slot trap head process sound is_head is state call =
+    piece_keeps r words slot trap head process sound is_head is (in_write r slot process sound.values is.there (writes_on r slot process sound is state call))

@@ -5,9 +5,11 @@ use Rattle.ow_base.specs.Words.{updated}
 use Rattle.ow_base.specs.Pages.{bytes_at}
 use Rattle.record_layouts.specs.declared.proc.ProcRec.{ProcRec}
 use Rattle.record_layouts.specs.declared.term.TermRec.{TermRec}
+use Rattle.record_layouts.specs.declared.row.RowRec.{RowRec}
 use Rattle.record_layouts.specs.Held.{Records, with_items}
 use Rattle.record_layouts.specs.Decode.{tape_by}
 use Rattle.record_layouts.specs.Pages.{pages_of}
+use Rattle.record_layouts.specs.Sound.{AreSound}
 use Rattle.syscalls.specs.Planned.{Planned, PlanOnce, PlanWrite}
 
 -- Bytes are written on a terminal of which this was the record and the tape: its tape as it decodes has them behind, its
@@ -36,3 +38,10 @@ abbrev pub IsDone : Records → WordMap → (tapes : ℕ → List ℕ) → (slot
 IsDone r words tapes slot process (PlanOnce items) done done_tapes = (done ≡ with_items r items) × (done_tapes ≡ tapes)
 IsDone r words tapes slot process (PlanWrite tty from len items) done done_tapes =
     (written : Records) × AreWritten r tapes tty (bytes_at (pages_of r words slot process) from len) written done_tapes × (done ≡ with_items written items)
+
+-- The records of a plan keep records sound: those that there are, and, where bytes are written before, those with other
+-- records of terminals and rows, where these are sound.
+abbrev pub KeepsSound : Records → Planned → Type 0
+KeepsSound r (PlanOnce items) = AreSound (with_items r items)
+KeepsSound r (PlanWrite tty from len items) = (terms : ℕ → Option TermRec) (rows : ℕ → Option RowRec)
+    → AreSound (record r { terms = terms; rows = rows }) → AreSound (with_items (record r { terms = terms; rows = rows }) items)

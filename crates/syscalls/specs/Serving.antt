@@ -30,10 +30,6 @@ abbrev pub plan_of : Service → Planned
 plan_of (service.Once patch) = PlanOnce patch.items.items
 plan_of (service.TtyWrite tty from len patch) = PlanWrite tty from len patch.items.items
 
-abbrev pub items_in : Planned → List PatchItem
-items_in (PlanOnce items) = items
-items_in (PlanWrite tty from len items) = items
-
 -- the service of the process in a slot is the one that its call asks for
 abbrev pub IsCallOf : Records → WordMap → (slot trap : ℕ) → Bank → Service → Type 0
 IsCallOf r words slot trap bank s =

@@ -1,6 +1,6 @@
 //! What a call makes of the records is what it makes of the Unix. The functions do nothing: their contracts are the laws.
 
-ghost use Rattle.std.specs.Prelude.{◌≡◌, ℕ, ◌+◌, List, Some};
+ghost use Rattle.std.specs.Prelude.{◌≡◌, ℕ, ◌+◌, List, length, Some};
 ghost use Rattle.ow_base.specs.Sv32.{WordMap};
 ghost use Rattle.ow_base.specs.declared.machine.Bank.{Bank};
 ghost use Rattle.record_layouts.specs.declared.head.HeadRec.{HeadRec};
@@ -10,7 +10,7 @@ ghost use Rattle.record_layouts.specs.Decode.{InKernel, InUser, unix_of};
 ghost use Rattle.record_layouts.specs.Held.{Records};
 ghost use Rattle.record_layouts.specs.Sound.{AreSound, IsIn};
 ghost use Rattle.record_layouts.specs.Unix.{Process};
-ghost use Rattle.syscalls.specs.Done.{IsDone};
+ghost use Rattle.syscalls.specs.Done.{IsDone, KeepsSound};
 ghost use Rattle.syscalls.specs.Planned.{planned_call, planned_piece};
 ghost use Rattle.syscalls.specs.Serving.{AreOnTerminals, CanCall, IsInWrite};
 
@@ -41,4 +41,13 @@ pub const fn sound_records_serve()
     ensures calls { (r : Records) (slot : ℕ) (process : ProcRec) → AreSound r → AreOnTerminals r → IsIn r slot process → CanCall r slot }
     ensures writes { (r : Records) (slot : ℕ) (process : ProcRec) → AreSound r → IsIn r slot process → process.state ≡ 2 → process.call ≡ 2
         → IsInWrite r (r.procs slot) }
+{}
+
+/// Records on which what a call asks for is done are sound again. Where bytes are written before, so must be the
+/// records that this leaves. The eight words of descriptors are those of the process's record.
+pub const fn calls_keep_sound()
+    ensures calls { (r : Records) (words : WordMap) (slot trap : ℕ) (head : HeadRec) (process : ProcRec) (bank : Bank) → AreSound r → r.head ≡ Some head → IsIn r slot process
+        → length process.descs ≡ 8 → KeepsSound r (planned_call r words slot trap head process bank) }
+    ensures pieces { (r : Records) (words : WordMap) (slot trap : ℕ) (head : HeadRec) (process : ProcRec) → AreSound r → r.head ≡ Some head → IsIn r slot process
+        → process.state ≡ 2 → process.call ≡ 2 → KeepsSound r (planned_piece r words slot trap head process) }
 {}

@@ -1,0 +1,221 @@
+-- Records on which a call is served are sound again.
+use Rattle.std.proofs.Common.{◌≡◌, ◌≢◌, ◌==◌, if◌then◌else◌, ℕ, zero, suc, ◌+◌, ◌-◌, ◌/◌, ◌%◌, ◌<◌, ◌≤◌, Bool, true, false, nat_lt, min, List, [], ◌∷◌, length, slice_get, slice_index, Option, Some, None, IfSome, inl, inr, refl, sym, ap, subst, ◌∙◌, arith}
+use Rattle.std.proofs.lemmas.Bool.{cases_Bool}
+use Rattle.std.proofs.lemmas.Bool.Decides.{eqb_tells, nat_tests}
+use Rattle.ow_base.specs.Sv32.{WordMap}
+use Rattle.ow_base.specs.Words.{minus}
+use Rattle.ow_base.specs.UserStep.{register}
+use Rattle.ow_base.specs.Pages.{Pages, is_readable}
+use Rattle.ow_base.specs.declared.machine.Bank.{Bank}
+use Rattle.record_layouts.specs.declared.head.HeadRec.{HeadRec}
+use Rattle.record_layouts.specs.declared.proc.ProcRec.{ProcRec}
+use Rattle.record_layouts.specs.declared.desc.DescRec.{DescRec}
+use Rattle.record_layouts.specs.declared.term.TermRec.{TermRec}
+use Rattle.record_layouts.specs.declared.row.RowRec.{RowRec}
+use Rattle.record_layouts.specs.Calls.{tty_piece}
+use Rattle.record_layouts.specs.Held.{Records, with_items}
+use Rattle.record_layouts.specs.Pages.{is_live, pages_of}
+use Rattle.record_layouts.specs.Proc.{FitsLive, FitsProc}
+use Rattle.record_layouts.specs.Sound.{IsIn, IsInCall, IsOpenTo, IsTransfer, AreSound}
+use Rattle.record_layouts.specs.Spelling.{IsStatus}
+use Rattle.process_table.specs.Patches.{bank_of, ended_items, saved_process}
+use Rattle.process_table.proofs.Ended.{live_fits}
+use Rattle.process_table.proofs.EndedSound.{ended_sound}
+use Rattle.process_table.proofs.Regions.{SameRegions}
+use Rattle.syscalls.specs.Planned.{Planned, PlanOnce, PlanWrite, answered_process, argument_of, caller_with, if_open, is_written, items_of, named, named_by, planned_answer, planned_call, planned_further, planned_number, planned_piece, planned_tty, planned_write, planned_write_on, staying_process, stopped_answer, written_process, yielded_process}
+use Rattle.syscalls.specs.Done.{KeepsSound}
+use Rattle.syscalls.proofs.Becoming.{IsAfter}
+use Rattle.syscalls.proofs.AfterSound.{after_sound}
+use Rattle.syscalls.proofs.Naming.{InWrite}
+
+-- what a process has that a descriptor of it names a description
+pub record IsNamed (r : Records) (words : List ℕ) (descriptor : ℕ) (d : DescRec) : Type 0 where
+  pub within : descriptor < length words
+  pub some : slice_index words descriptor ≢ 0
+  pub there : r.descs (slice_index words descriptor - 1) ≡ Some d
+
+open_there : (held : Option DescRec) (d : DescRec) → if_open held ≡ Some d → held ≡ Some d
+open_there None d is = cc
+open_there (Some e) d is = elim (cases_Bool (e.object == 0)) [ inl closed ↦ let none : None ≡ Some d = rw closed at is in cc | inr isnt ↦ rw isnt at is ]
+
+word_there : (r : Records) (word : ℕ) (d : DescRec) → named_by r.descs (Some word) ≡ Some d → (word ≢ 0) × (r.descs (word - 1) ≡ Some d)
+word_there r word d is = elim (eqb_tells word 0) [
+    inl (none, same) ↦ let nothing : None ≡ Some d = rw none at is in cc
+  | inr (some, differs) ↦ (differs, open_there (r.descs (word - 1)) d (rw some at is)) ]
+
+named_there : (r : Records) (words : List ℕ) (i : ℕ) (d : DescRec) → named_by r.descs (slice_get words i) ≡ Some d → IsNamed r words i d
+named_there r [] i d is = cc
+named_there r (word ∷ words) zero d is = let found = word_there r word d is in record { within = omega arith; some = found.0; there = found.1 }
+named_there r (word ∷ words) (suc i) d is = let found = named_there r words i d is in record { within = omega (arith, found.within); some = found.some; there = found.there }
+
+pub is_named : (r : Records) (words : List ℕ) (i : ℕ) (d : DescRec) → named r words i ≡ Some d → IsNamed r words i d
+unfolding named
+is_named r words i d is = named_there r words i d is
+
+-- a write that may be made through a description
+pub record IsWrite (r : Records) (process : ProcRec) (d : DescRec) : Type 0 where
+  pub descriptor : register process.regs 10 < 8
+  pub named : slice_index process.descs (register process.regs 10) ≢ 0
+  pub there : r.descs (slice_index process.descs (register process.regs 10) - 1) ≡ Some d
+  pub allowed : IsOpenTo 2 d
+  pub count : register process.regs 12 ≤ 0x7fffffff
+
+opens : (d : DescRec) → is_written d ≡ true → IsOpenTo 2 d
+opens d writes =
+    let half : d.mode / 2 ≡ 1 = grind (arith, nat_tests) in
+    elim (eqb_tells d.mode 2) [ inl (test, two) ↦ inl two | inr (test, other) ↦ inr (omega (arith, half, other)) ]
+
+module _ (r : Records) (head : HeadRec) (slot : ℕ) (process : ProcRec) (bank : Bank) (trap : ℕ) (sound : AreSound r) (is_head : r.head ≡ Some head) (is : IsIn r slot process) where
+
+  abbrev saved : ProcRec
+  saved = saved_process process bank
+
+  process_fits : FitsProc process
+  process_fits = subst (λ (held : Option ProcRec). IfSome held FitsProc) is.there (sound.values.procs slot)
+
+  held : FitsLive process
+  held = live_fits process process_fits is.live
+
+  answered_fits : (answer : ℕ) → FitsProc (answered_process saved answer)
+  answered_fits answer = record {
+    state = omega arith;
+    free = λ s. absurd (omega (arith, s));
+    live = λ s. record {
+      pid = held.pid; parent = held.parent; code_pages = held.code_pages; data_pages = held.data_pages; heap_end = held.heap_end;
+      flags = held.flags; status = held.status; descs = held.descs;
+    };
+    no_call = λ s. refl;
+    none_done = λ s. refl;
+    ended = λ s. absurd (omega (arith, s));
+  }
+
+  yielded_fits : FitsProc (yielded_process saved)
+  yielded_fits = record {
+    state = omega arith;
+    free = λ s. absurd (omega (arith, s));
+    live = λ s. record {
+      pid = held.pid; parent = held.parent; code_pages = held.code_pages; data_pages = held.data_pages; heap_end = held.heap_end;
+      flags = held.flags; status = held.status; descs = held.descs;
+    };
+    no_call = λ s. refl;
+    none_done = λ s. refl;
+    ended = λ s. absurd (omega (arith, s));
+  }
+
+  staying_fits : (done : ℕ) → FitsProc (staying_process saved done)
+  staying_fits done = record {
+    state = omega arith;
+    free = λ s. absurd (omega (arith, s));
+    live = λ s. record {
+      pid = held.pid; parent = held.parent; code_pages = held.code_pages; data_pages = held.data_pages; heap_end = held.heap_end;
+      flags = held.flags; status = held.status; descs = held.descs;
+    };
+    no_call = λ s. absurd (omega (arith, s));
+    none_done = λ s. absurd (omega (arith, s));
+    ended = λ s. absurd (omega (arith, s));
+  }
+
+  answered_after : (answer : ℕ) → IsAfter process (answered_process saved answer)
+  answered_after answer = record { pid = refl; parent = refl; status = refl; descs = refl; regions = record { live = refl; lives = is.live; code = refl; values = refl; brk = refl } }
+
+  yielded_after : IsAfter process (yielded_process saved)
+  yielded_after = record { pid = refl; parent = refl; status = refl; descs = refl; regions = record { live = refl; lives = is.live; code = refl; values = refl; brk = refl } }
+
+  staying_after : (done : ℕ) → IsAfter process (staying_process saved done)
+  staying_after done = record { pid = refl; parent = refl; status = refl; descs = refl; regions = record { live = refl; lives = is.live; code = refl; values = refl; brk = refl } }
+
+  pub answered_sound : (answer : ℕ) → AreSound (with_items r (items_of (caller_with slot trap head saved) (answered_process saved answer)))
+  answered_sound answer = after_sound r head slot process (answered_process saved answer) trap sound is_head is (answered_after answer) (answered_fits answer) (λ s. absurd (omega (arith, s)))
+
+  pub yielded_sound : AreSound (with_items r (items_of (caller_with slot trap head saved) (yielded_process saved)))
+  yielded_sound = after_sound r head slot process (yielded_process saved) trap sound is_head is yielded_after yielded_fits (λ s. absurd (omega (arith, s)))
+
+  pub exited_sound : (status : ℕ) → IsStatus status → AreSound (with_items r (ended_items head slot saved status trap))
+  unfolding ended_items
+  exited_sound status word = ended_sound r head slot process status trap sound is_head is word
+
+  in_write : (d : DescRec) (done : ℕ) → IsWrite r saved d → done < argument_of saved 2 → IsInCall r (staying_process saved done)
+  in_write d done write left = inl (refl, (d, record { descriptor = write.descriptor; named = write.named; there = write.there; allowed = write.allowed; count = write.count; left = left }))
+
+  pub staying_sound : (d : DescRec) (done : ℕ) → IsWrite r saved d → done < argument_of saved 2 → AreSound (with_items r (items_of (caller_with slot trap head saved) (staying_process saved done)))
+  staying_sound d done write left = after_sound r head slot process (staying_process saved done) trap sound is_head is (staying_after done) (staying_fits done) (λ s. in_write d done write left)
+
+  pub written_sound : (d : DescRec) (done : ℕ) → IsWrite r saved d → done ≤ argument_of saved 2
+      → AreSound (with_items r (items_of (caller_with slot trap head saved) (written_process saved (argument_of saved 2) done)))
+  written_sound d done write most = elim (eqb_tells done (argument_of saved 2)) [
+      inl (last, same) ↦ rw last (answered_sound (argument_of saved 2))
+    | inr (more, other) ↦ rw more (staying_sound d done write (omega (arith, most, other))) ]
+
+-- with other records of terminals and rows the same holds
+write_too : (r : Records) (terms : ℕ → Option TermRec) (rows : ℕ → Option RowRec) (process : ProcRec) (d : DescRec) → IsWrite r process d → IsWrite (record r { terms = terms; rows = rows }) process d
+write_too r terms rows process d write = record { descriptor = write.descriptor; named = write.named; there = write.there; allowed = write.allowed; count = write.count }
+
+in_too : (r : Records) (terms : ℕ → Option TermRec) (rows : ℕ → Option RowRec) (slot : ℕ) (process : ProcRec) → IsIn r slot process → IsIn (record r { terms = terms; rows = rows }) slot process
+in_too r terms rows slot process is = record { within = is.within; there = is.there; live = is.live }
+
+module _ (r : Records) (head : HeadRec) (slot : ℕ) (process : ProcRec) (bank : Bank) (trap : ℕ) (sound : AreSound r) (is_head : r.head ≡ Some head) (is : IsIn r slot process) (pages : Pages) where
+
+  abbrev caller_saved : ProcRec
+  caller_saved = saved_process process bank
+
+  pub tty_keeps : (d : DescRec) (tty done : ℕ) → IsWrite r caller_saved d → done < argument_of caller_saved 2 → KeepsSound r (planned_tty pages (caller_with slot trap head caller_saved) tty done)
+  unfolding planned_tty
+  tty_keeps d tty done write left =
+      let count = argument_of caller_saved 2 in
+      let len = tty_piece count done in
+      elim (cases_Bool (is_readable pages (argument_of caller_saved 1 + done) len)) [
+        inl all ↦ rw all (λ terms rows too.
+            written_sound (record r { terms = terms; rows = rows }) head slot process bank trap too is_head (in_too r terms rows slot process is) d (done + len)
+                (write_too r terms rows caller_saved d write) (omega arith))
+      | inr some ↦ rw some (answered_sound r head slot process bank trap sound is_head is (stopped_answer done 14)) ]
+
+  write_keeps : (d : DescRec) → IsNamed r process.descs (argument_of caller_saved 0) d → length process.descs ≡ 8
+      → KeepsSound r (planned_write_on pages (caller_with slot trap head caller_saved) (Some d))
+  unfolding planned_write_on
+  write_keeps d it eight = elim (cases_Bool (is_written d)) [
+      inl writes ↦ elim (cases_Bool (nat_lt 0x7fffffff (argument_of caller_saved 2))) [
+          inl many ↦ rw (writes, many) (answered_sound r head slot process bank trap sound is_head is (minus 22))
+        | inr few ↦ elim (cases_Bool (argument_of caller_saved 2 == 0)) [
+            inl none ↦ rw (writes, few, none) (answered_sound r head slot process bank trap sound is_head is 0)
+          | inr some ↦
+              let count : argument_of caller_saved 2 ≤ 0x7fffffff = grind (arith, nat_tests) in
+              let left : 0 < argument_of caller_saved 2 = grind (arith, nat_tests) in
+              let write : IsWrite r caller_saved d = record { descriptor = omega (arith, it.within, eight); named = it.some; there = it.there; allowed = opens d writes; count = count } in
+              rw (writes, few, some) (tty_keeps d d.index 0 write left) ] ]
+    | inr reads ↦ rw reads (answered_sound r head slot process bank trap sound is_head is (minus 9)) ]
+
+  write_by : (held : Option DescRec) → ((d : DescRec) → held ≡ Some d → IsNamed r process.descs (argument_of caller_saved 0) d) → length process.descs ≡ 8
+      → KeepsSound r (planned_write_on pages (caller_with slot trap head caller_saved) held)
+  unfolding planned_write_on
+  write_by None it eight = answered_sound r head slot process bank trap sound is_head is (minus 9)
+  write_by (Some d) it eight = write_keeps d (it d refl) eight
+
+  pub number_keeps : (number : ℕ) → length process.descs ≡ 8 → KeepsSound r (planned_number r pages (caller_with slot trap head caller_saved) number)
+  unfolding planned_number planned_write
+  number_keeps number eight = elim (cases_Bool (number == 1)) [
+      inl exits ↦
+        let small : argument_of caller_saved 0 % 256 ≤ 0xff = omega arith in
+        rw exits (exited_sound r head slot process bank trap sound is_head is (argument_of caller_saved 0 % 256) (inl small))
+    | inr no_exit ↦ elim (cases_Bool (number == 2)) [
+      inl writes ↦ rw (no_exit, writes) (write_by (named r process.descs (argument_of caller_saved 0)) (λ d it. is_named r process.descs (argument_of caller_saved 0) d it) eight)
+    | inr no_write ↦ elim (cases_Bool (number == 7)) [
+      inl asks ↦ rw (no_exit, no_write, asks) (answered_sound r head slot process bank trap sound is_head is process.pid)
+    | inr no_pid ↦ elim (cases_Bool (number == 18)) [
+      inl yields ↦ rw (no_exit, no_write, no_pid, yields) (yielded_sound r head slot process bank trap sound is_head is)
+    | inr none ↦ rw (no_exit, no_write, no_pid, none) (answered_sound r head slot process bank trap sound is_head is (minus 38)) ] ] ] ]
+
+pub call_keeps : (r : Records) (words : WordMap) (slot trap : ℕ) (head : HeadRec) (process : ProcRec) (bank : Bank) → AreSound r → r.head ≡ Some head → IsIn r slot process → length process.descs ≡ 8
+    → KeepsSound r (planned_call r words slot trap head process bank)
+unfolding planned_call
+call_keeps r words slot trap head process bank sound is_head is eight =
+    number_keeps r head slot process bank trap sound is_head is (pages_of r words slot process) (register bank.regs 17) eight
+
+pub piece_keeps : (r : Records) (words : WordMap) (slot trap : ℕ) (head : HeadRec) (process : ProcRec) → AreSound r → r.head ≡ Some head → IsIn r slot process → InWrite r process
+    → KeepsSound r (planned_piece r words slot trap head process)
+unfolding planned_piece
+piece_keeps r words slot trap head process sound is_head is it =
+    let d = it.description in
+    let t = it.transfer in
+    let write : IsWrite r process d = record { descriptor = t.descriptor; named = t.named; there = t.there; allowed = t.allowed; count = t.count } in
+    subst (λ (held : Option DescRec). KeepsSound r (planned_further (pages_of r words slot process) (caller_with slot trap head process) held)) (sym it.is_named)
+        (tty_keeps r head slot process (bank_of process) trap sound is_head is (pages_of r words slot process) d d.index process.done write t.left)
