@@ -21,7 +21,8 @@ use Rattle.record_layouts.specs.Sound.{IsIn, AreSound}
 use Rattle.process_table.specs.Patches.{bank_of, head_item, process_item}
 use Rattle.process_table.proofs.Kept.{set_here, set_other, same_or_not}
 use Rattle.process_table.proofs.Regions.{SameRegions, mapped_same}
-use Rattle.process_table.proofs.EndedUnix.{IsOf, live_not_ended, others_are}
+use Rattle.process_table.specs.Meaning.{IsOf}
+use Rattle.process_table.proofs.EndedUnix.{live_not_ended, others_are}
 use Rattle.process_table.proofs.ChangedUnix.{in_use_still}
 use Rattle.process_table.proofs.Seats.{Living, Missing, found_in, living, not_found, pid_here, pid_range, this_number}
 use Rattle.syscalls.proofs.Altered.{altered, decoded_stays, mapped_stays, pid_stays}

@@ -10,7 +10,7 @@ use Rattle.record_layouts.specs.Held.{Records}
 use Rattle.record_layouts.specs.Pages.{is_mapped}
 use Rattle.record_layouts.specs.Decode.{Context, InKernel, InUser, process_of, processes_of, unix_of}
 use Rattle.record_layouts.specs.Sound.{IsIn, IsInCall, AreSound}
-use Rattle.process_table.proofs.EndedUnix.{IsOf}
+use Rattle.process_table.specs.Meaning.{IsOf}
 use Rattle.syscalls.specs.Done.{IsDone, KeepsSound}
 use Rattle.syscalls.specs.Planned.{planned_call, planned_piece}
 use Rattle.syscalls.specs.Serving.{AreOnTerminals, CanCall, IsInWrite}

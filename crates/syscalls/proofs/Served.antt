@@ -20,7 +20,8 @@ use Rattle.record_layouts.specs.Decode.{Context, InKernel, InUser, call_of, desc
 use Rattle.record_layouts.specs.Sound.{IsIn, AreSound}
 use Rattle.process_table.specs.Patches.{bank_of, ended_items, saved_process}
 use Rattle.process_table.proofs.Regions.{SameRegions, pages_same}
-use Rattle.process_table.proofs.EndedUnix.{IsOf, ended_unix}
+use Rattle.process_table.specs.Meaning.{IsOf}
+use Rattle.process_table.proofs.EndedUnix.{ended_unix}
 use Rattle.process_table.proofs.Endings.{ended_records}
 use Rattle.process_table.proofs.Seats.{pid_range}
 use Rattle.syscalls.specs.Planned.{Planned, PlanOnce, PlanWrite, answered_process, argument_of, caller_with, is_written, if_open, items_of, named, named_by, planned_answer, planned_call, planned_further, planned_number, planned_piece, planned_tty, planned_write, planned_write_on, staying_process, stopped_answer, written_process, yielded_process}
