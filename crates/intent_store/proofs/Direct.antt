@@ -9,7 +9,8 @@ use Rattle.record_layouts.specs.Held.{Records, beside, is_direct, is_of_area, wi
 use Rattle.record_layouts.specs.Overlay.{Area, area_at, gate_of, overlay}
 use Rattle.record_layouts.specs.Reading.{is_readable_gate, records_in, records_of}
 use Rattle.record_layouts.specs.Seam.{with_frame_words}
-use Rattle.record_layouts.proofs.Stores.{behind_words_kept, stored_words_set}
+use Rattle.record_layouts.proofs.Stores.{stored_words_set}
+use Rattle.intent_store.proofs.Behind.{behind_words_kept}
 use Rattle.intent_store.specs.Live.{IsStanding, held_of, map_of, records_held, rest_of}
 use Rattle.intent_store.specs.Stores.{with_frame, with_word_at}
 use Rattle.intent_store.proofs.Holding.{map_same}

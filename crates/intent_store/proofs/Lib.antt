@@ -9,3 +9,4 @@ pub mod Plants
 pub mod Reading
 pub mod Holding
 pub mod Direct
+pub mod Behind

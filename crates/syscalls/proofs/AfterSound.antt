@@ -31,7 +31,6 @@ places_same one other table word same = rw (region_same one other same word, reg
 
 module _ (r : Records) (head : HeadRec) (slot : ℕ) (process after : ProcRec) (trap : ℕ) (sound : AreSound r) (is_head : r.head ≡ Some head) (is : IsIn r slot process)
     (next : IsAfter process after) (fits : FitsProc after) (call : after.state ≡ 2 → IsInCall r after) where
-
   abbrev now : Records
   now = changed_records r head slot process after r.sigs trap
 
@@ -41,37 +40,42 @@ module _ (r : Records) (head : HeadRec) (slot : ℕ) (process after : ProcRec) (
   -- a process that is live is this one, or was live before in another slot
   were : (place : ℕ) (other : ProcRec) → IsIn now place other → ((place ≡ slot) × (other ≡ after)) ⊎ ((place ≡ slot → ⊥) × IsIn r place other)
   were place other there = elim (where_held r.procs slot place after other there.there) [
-      inl here ↦ inl (here.0, here.1)
-    | inr before ↦ inr (before.0, record { within = there.within; there = before.1; live = there.live }) ]
+    | inl here ↦ inl (here.0, here.1)
+    | inr before ↦ inr (before.0, record { within = there.within; there = before.1; live = there.live })
+  ]
 
   exit_now : (place : ℕ) (other : ProcRec) → IsIn now place other → slot_by (r.exits other.pid) ≡ Some place
   exit_now place other there = elim (were place other there) [
-      inl here ↦
+    | inl here ↦
         ap (λ (p : ProcRec). slot_by (r.exits p.pid)) here.1
         ∙ (ap (λ (p : ℕ). slot_by (r.exits p)) next.pid ∙ (sound.numbered.exit slot process is ∙ ap (λ (k : ℕ). Some k) (sym here.0)))
-    | inr before ↦ sound.numbered.exit place other before.1 ]
+    | inr before ↦ sound.numbered.exit place other before.1
+  ]
 
   process_now : (pid s : ℕ) → slot_by (r.exits pid) ≡ Some s → (other : ProcRec) × (IsIn now s other) × (other.pid ≡ pid)
   process_now pid s exit =
       let found = sound.numbered.process pid s exit in
       elim (same_or_not s slot) [
-        inl same ↦
-          let there : r.procs slot ≡ Some found.0 = subst (λ (k : ℕ). r.procs k ≡ Some found.0) same found.1.there in
-          let equal : process ≡ found.0 = one_process r slot process found.0 is.there there in
-          (after, subst (λ (k : ℕ). IsIn now k after) (sym same) here_now, next.pid ∙ (ap (λ (p : ProcRec). p.pid) equal ∙ found.2))
-      | inr apart ↦ (found.0, record { within = found.1.within; there = set_other r.procs slot (Some after) s apart ∙ found.1.there; live = found.1.live }, found.2) ]
+        | inl same ↦
+            let there : r.procs slot ≡ Some found.0 = subst (λ (k : ℕ). r.procs k ≡ Some found.0) same found.1.there in
+            let equal : process ≡ found.0 = one_process r slot process found.0 is.there there in
+            (after, subst (λ (k : ℕ). IsIn now k after) (sym same) here_now, next.pid ∙ (ap (λ (p : ProcRec). p.pid) equal ∙ found.2))
+        | inr apart ↦ (found.0, record { within = found.1.within; there = set_other r.procs slot (Some after) s apart ∙ found.1.there; live = found.1.live }, found.2)
+      ]
 
   signals_now : (place : ℕ) (other : ProcRec) → IsIn now place other → (signals : SigRec) × (r.sigs place ≡ Some signals) × (signals.pid ≡ other.pid)
   signals_now place other there = elim (were place other there) [
-      inl here ↦
+    | inl here ↦
         let own = sound.numbered.signals slot process is in
         (own.0, subst (λ (k : ℕ). r.sigs k ≡ Some own.0) (sym here.0) own.1, own.2 ∙ (sym next.pid ∙ sym (ap (λ (p : ProcRec). p.pid) here.1)))
-    | inr before ↦ sound.numbered.signals place other before.1 ]
+    | inr before ↦ sound.numbered.signals place other before.1
+  ]
 
   ended_still : (place : ℕ) (other : ProcRec) → updated r.procs slot (Some after) place ≡ Some other → other.state ≡ 3 → r.procs place ≡ Some other
   ended_still place other there state = elim (where_held r.procs slot place after other there) [
-      inl here ↦ absurd (not_over after next.regions.live (sym (ap (λ (p : ProcRec). p.state) here.1) ∙ state))
-    | inr before ↦ before.1 ]
+    | inl here ↦ absurd (not_over after next.regions.live (sym (ap (λ (p : ProcRec). p.state) here.1) ∙ state))
+    | inr before ↦ before.1
+  ]
 
   numbered_now : AreNumbered now
   numbered_now =
@@ -86,35 +90,45 @@ module _ (r : Records) (head : HeadRec) (slot : ℕ) (process after : ProcRec) (
         one_ended = λ place third other another there too state states same.
             sound.numbered.one_ended place third other another (ended_still place other there state) (ended_still third another too states) state states same;
         parents = λ place other there. elim (where_held r.procs slot place after other there) [
-            inl here ↦
+          | inl here ↦
               let parent : other.parent ≡ process.parent = ap (λ (p : ProcRec). p.parent) here.1 ∙ next.parent in
               omega (arith, parent, before, sound.numbered.parents slot process is.there)
-          | inr held ↦ omega (arith, before, sound.numbered.parents place other held.1) ];
+          | inr held ↦ omega (arith, before, sound.numbered.parents place other held.1)
+        ];
       }
 
   transfer_stays : (other : ProcRec) (mode : ℕ) (description : DescRec) → IsTransfer r other mode description → IsTransfer now other mode description
   transfer_stays other mode description it = record {
-    descriptor = it.descriptor; named = it.named; there = it.there; allowed = it.allowed; count = it.count; left = it.left;
+    descriptor = it.descriptor;
+    named = it.named;
+    there = it.there;
+    allowed = it.allowed;
+    count = it.count;
+    left = it.left;
   }
 
   call_stays : (other : ProcRec) → IsInCall r other → IsInCall now other
   call_stays other it = elim it [
-      inl write ↦ inl (write.0, (write.1.0, transfer_stays other 2 write.1.0 write.1.1))
+    | inl write ↦ inl (write.0, (write.1.0, transfer_stays other 2 write.1.0 write.1.1))
     | inr rest ↦ inr (elim rest [
-      inl read ↦ inl (read.0, read.1, (read.2.0, transfer_stays other 1 read.2.0 read.2.1, read.2.2))
-    | inr wait ↦ inr wait ]) ]
+      | inl read ↦ inl (read.0, read.1, (read.2.0, transfer_stays other 1 read.2.0 read.2.1, read.2.2))
+      | inr wait ↦ inr wait
+    ])
+  ]
 
   calls_now : AreInCalls now
   calls_now = record {
     calls = λ place other there state. elim (were place other there) [
-        inl here ↦ subst (λ (p : ProcRec). IsInCall now p) (sym here.1) (call_stays after (call (sym (ap (λ (p : ProcRec). p.state) here.1) ∙ state)))
-      | inr before ↦ call_stays other (sound.in_calls.calls place other before.1 state) ];
+      | inl here ↦ subst (λ (p : ProcRec). IsInCall now p) (sym here.1) (call_stays after (call (sym (ap (λ (p : ProcRec). p.state) here.1) ∙ state)))
+      | inr before ↦ call_stays other (sound.in_calls.calls place other before.1 state)
+    ];
     described = λ place other there fd within named. elim (were place other there) [
-        inl here ↦
+      | inl here ↦
           let descs : other.descs ≡ process.descs = ap (λ (p : ProcRec). p.descs) here.1 ∙ next.descs in
           subst (λ (ds : List ℕ). (description : DescRec) × (r.descs (slice_index ds fd - 1) ≡ Some description) × (description.object ≢ 0)) (sym descs)
-              (sound.in_calls.described slot process is fd within (subst (λ (ds : List ℕ). slice_index ds fd ≢ 0) descs named))
-      | inr before ↦ sound.in_calls.described place other before.1 fd within named ];
+          (sound.in_calls.described slot process is fd within (subst (λ (ds : List ℕ). slice_index ds fd ≢ 0) descs named))
+      | inr before ↦ sound.in_calls.described place other before.1 fd within named
+    ];
   }
 
   mapped_here : is_mapped r slot after ≡ true
@@ -125,14 +139,16 @@ module _ (r : Records) (head : HeadRec) (slot : ℕ) (process after : ProcRec) (
     mapped = λ place other there.
         mapped_stays r (Some (served head trap process.pid)) (updated r.procs slot (Some after)) r.sigs r.exits place other
         ∙ elim (were place other there) [
-            inl here ↦ ap (λ (k : ℕ). is_mapped r k other) here.0 ∙ (ap (is_mapped r slot) here.1 ∙ mapped_here)
-          | inr before ↦ sound.mapped.mapped place other before.1 ];
+          | inl here ↦ ap (λ (k : ℕ). is_mapped r k other) here.0 ∙ (ap (is_mapped r slot) here.1 ∙ mapped_here)
+          | inr before ↦ sound.mapped.mapped place other before.1
+        ];
     clean = λ place other there table word few small no_place. elim (were place other there) [
-        inl here ↦
+      | inl here ↦
           let place_too : is_table_place process table word ≡ false =
-              sym (places_same after process table word next.regions) ∙ (sym (ap (λ (p : ProcRec). is_table_place p table word) here.1) ∙ no_place) in
+          sym (places_same after process table word next.regions) ∙ (sym (ap (λ (p : ProcRec). is_table_place p table word) here.1) ∙ no_place) in
           ap (λ (k : ℕ). r.table_words k table word) here.0 ∙ sound.mapped.clean slot process is table word few small place_too
-      | inr before ↦ sound.mapped.clean place other before.1 table word few small no_place ];
+      | inr before ↦ sound.mapped.clean place other before.1 table word few small no_place
+    ];
   }
 
   pub after_sound : AreSound (changed_records r head slot process after r.sigs trap)
@@ -144,12 +160,24 @@ module _ (r : Records) (head : HeadRec) (slot : ℕ) (process after : ProcRec) (
         complete = record {
           head = refl;
           procs = λ k within. filled_by_place r.procs slot after k (complete.procs k within);
-          sigs = complete.sigs; descs = complete.descs; files = complete.files; caches = complete.caches; terms = complete.terms; rows = complete.rows; exits = complete.exits;
+          sigs = complete.sigs;
+          descs = complete.descs;
+          files = complete.files;
+          caches = complete.caches;
+          terms = complete.terms;
+          rows = complete.rows;
+          exits = complete.exits;
         };
         values = record {
           head = served_fits head trap process.pid head_fits;
           procs = held_by_place (λ (p : Option ProcRec). IfSome p FitsProc) r.procs slot (Some after) fits values.procs;
-          sigs = values.sigs; descs = values.descs; files = values.files; caches = values.caches; terms = values.terms; rows = values.rows; exits = values.exits;
+          sigs = values.sigs;
+          descs = values.descs;
+          files = values.files;
+          caches = values.caches;
+          terms = values.terms;
+          rows = values.rows;
+          exits = values.exits;
         };
         numbered = numbered_now;
         in_calls = calls_now;

@@ -40,8 +40,9 @@ open_there (Some e) d is = elim (cases_Bool (e.object == 0)) [ inl closed ↦ le
 
 word_there : (r : Records) (word : ℕ) (d : DescRec) → named_by r.descs (Some word) ≡ Some d → (word ≢ 0) × (r.descs (word - 1) ≡ Some d)
 word_there r word d is = elim (eqb_tells word 0) [
-    inl (none, same) ↦ let nothing : None ≡ Some d = rw none at is in cc
-  | inr (some, differs) ↦ (differs, open_there (r.descs (word - 1)) d (rw some at is)) ]
+  | inl (none, same) ↦ let nothing : None ≡ Some d = rw none at is in cc
+  | inr (some, differs) ↦ (differs, open_there (r.descs (word - 1)) d (rw some at is))
+]
 
 named_there : (r : Records) (words : List ℕ) (i : ℕ) (d : DescRec) → named_by r.descs (slice_get words i) ≡ Some d → IsNamed r words i d
 named_there r [] i d is = cc
@@ -66,7 +67,6 @@ opens d writes =
     elim (eqb_tells d.mode 2) [ inl (test, two) ↦ inl two | inr (test, other) ↦ inr (omega (arith, half, other)) ]
 
 module _ (r : Records) (head : HeadRec) (slot : ℕ) (process : ProcRec) (bank : Bank) (trap : ℕ) (sound : AreSound r) (is_head : r.head ≡ Some head) (is : IsIn r slot process) where
-
   abbrev saved : ProcRec
   saved = saved_process process bank
 
@@ -81,8 +81,14 @@ module _ (r : Records) (head : HeadRec) (slot : ℕ) (process : ProcRec) (bank :
     state = omega arith;
     free = λ s. absurd (omega (arith, s));
     live = λ s. record {
-      pid = held.pid; parent = held.parent; code_pages = held.code_pages; data_pages = held.data_pages; heap_end = held.heap_end;
-      flags = held.flags; status = held.status; descs = held.descs;
+      pid = held.pid;
+      parent = held.parent;
+      code_pages = held.code_pages;
+      data_pages = held.data_pages;
+      heap_end = held.heap_end;
+      flags = held.flags;
+      status = held.status;
+      descs = held.descs;
     };
     no_call = λ s. refl;
     none_done = λ s. refl;
@@ -94,8 +100,14 @@ module _ (r : Records) (head : HeadRec) (slot : ℕ) (process : ProcRec) (bank :
     state = omega arith;
     free = λ s. absurd (omega (arith, s));
     live = λ s. record {
-      pid = held.pid; parent = held.parent; code_pages = held.code_pages; data_pages = held.data_pages; heap_end = held.heap_end;
-      flags = held.flags; status = held.status; descs = held.descs;
+      pid = held.pid;
+      parent = held.parent;
+      code_pages = held.code_pages;
+      data_pages = held.data_pages;
+      heap_end = held.heap_end;
+      flags = held.flags;
+      status = held.status;
+      descs = held.descs;
     };
     no_call = λ s. refl;
     none_done = λ s. refl;
@@ -107,8 +119,14 @@ module _ (r : Records) (head : HeadRec) (slot : ℕ) (process : ProcRec) (bank :
     state = omega arith;
     free = λ s. absurd (omega (arith, s));
     live = λ s. record {
-      pid = held.pid; parent = held.parent; code_pages = held.code_pages; data_pages = held.data_pages; heap_end = held.heap_end;
-      flags = held.flags; status = held.status; descs = held.descs;
+      pid = held.pid;
+      parent = held.parent;
+      code_pages = held.code_pages;
+      data_pages = held.data_pages;
+      heap_end = held.heap_end;
+      flags = held.flags;
+      status = held.status;
+      descs = held.descs;
     };
     no_call = λ s. absurd (omega (arith, s));
     none_done = λ s. absurd (omega (arith, s));
@@ -143,8 +161,9 @@ module _ (r : Records) (head : HeadRec) (slot : ℕ) (process : ProcRec) (bank :
   pub written_sound : (d : DescRec) (done : ℕ) → IsWrite r saved d → done ≤ argument_of saved 2
       → AreSound (with_items r (items_of (caller_with slot trap head saved) (written_process saved (argument_of saved 2) done)))
   written_sound d done write most = elim (eqb_tells done (argument_of saved 2)) [
-      inl (last, same) ↦ rw last (answered_sound (argument_of saved 2))
-    | inr (more, other) ↦ rw more (staying_sound d done write (omega (arith, most, other))) ]
+    | inl (last, same) ↦ rw last (answered_sound (argument_of saved 2))
+    | inr (more, other) ↦ rw more (staying_sound d done write (omega (arith, most, other)))
+  ]
 
 -- with other records of terminals and rows the same holds
 write_too : (r : Records) (terms : ℕ → Option TermRec) (rows : ℕ → Option RowRec) (process : ProcRec) (d : DescRec) → IsWrite r process d → IsWrite (record r { terms = terms; rows = rows }) process d
@@ -154,7 +173,6 @@ in_too : (r : Records) (terms : ℕ → Option TermRec) (rows : ℕ → Option R
 in_too r terms rows slot process is = record { within = is.within; there = is.there; live = is.live }
 
 module _ (r : Records) (head : HeadRec) (slot : ℕ) (process : ProcRec) (bank : Bank) (trap : ℕ) (sound : AreSound r) (is_head : r.head ≡ Some head) (is : IsIn r slot process) (pages : Pages) where
-
   abbrev caller_saved : ProcRec
   caller_saved = saved_process process bank
 
@@ -164,25 +182,29 @@ module _ (r : Records) (head : HeadRec) (slot : ℕ) (process : ProcRec) (bank :
       let count = argument_of caller_saved 2 in
       let len = tty_piece count done in
       elim (cases_Bool (is_readable pages (argument_of caller_saved 1 + done) len)) [
-        inl all ↦ rw all (λ terms rows too.
+        | inl all ↦ rw all (λ terms rows too.
             written_sound (record r { terms = terms; rows = rows }) head slot process bank trap too is_head (in_too r terms rows slot process is) d (done + len)
-                (write_too r terms rows caller_saved d write) (omega arith))
-      | inr some ↦ rw some (answered_sound r head slot process bank trap sound is_head is (stopped_answer done 14)) ]
+            (write_too r terms rows caller_saved d write) (omega arith))
+        | inr some ↦ rw some (answered_sound r head slot process bank trap sound is_head is (stopped_answer done 14))
+      ]
 
   write_keeps : (d : DescRec) → IsNamed r process.descs (argument_of caller_saved 0) d → length process.descs ≡ 8
       → KeepsSound r (planned_write_on pages (caller_with slot trap head caller_saved) (Some d))
   unfolding planned_write_on
   write_keeps d it eight = elim (cases_Bool (is_written d)) [
-      inl writes ↦ elim (cases_Bool (nat_lt 0x7fffffff (argument_of caller_saved 2))) [
-          inl many ↦ rw (writes, many) (answered_sound r head slot process bank trap sound is_head is (minus 22))
-        | inr few ↦ elim (cases_Bool (argument_of caller_saved 2 == 0)) [
-            inl none ↦ rw (writes, few, none) (answered_sound r head slot process bank trap sound is_head is 0)
-          | inr some ↦
-              let count : argument_of caller_saved 2 ≤ 0x7fffffff = grind (arith, nat_tests) in
-              let left : 0 < argument_of caller_saved 2 = grind (arith, nat_tests) in
-              let write : IsWrite r caller_saved d = record { descriptor = omega (arith, it.within, eight); named = it.some; there = it.there; allowed = opens d writes; count = count } in
-              rw (writes, few, some) (tty_keeps d d.index 0 write left) ] ]
-    | inr reads ↦ rw reads (answered_sound r head slot process bank trap sound is_head is (minus 9)) ]
+    | inl writes ↦ elim (cases_Bool (nat_lt 0x7fffffff (argument_of caller_saved 2))) [
+      | inl many ↦ rw (writes, many) (answered_sound r head slot process bank trap sound is_head is (minus 22))
+      | inr few ↦ elim (cases_Bool (argument_of caller_saved 2 == 0)) [
+        | inl none ↦ rw (writes, few, none) (answered_sound r head slot process bank trap sound is_head is 0)
+        | inr some ↦
+            let count : argument_of caller_saved 2 ≤ 0x7fffffff = grind (arith, nat_tests) in
+            let left : 0 < argument_of caller_saved 2 = grind (arith, nat_tests) in
+            let write : IsWrite r caller_saved d = record { descriptor = omega (arith, it.within, eight); named = it.some; there = it.there; allowed = opens d writes; count = count } in
+            rw (writes, few, some) (tty_keeps d d.index 0 write left)
+      ]
+    ]
+    | inr reads ↦ rw reads (answered_sound r head slot process bank trap sound is_head is (minus 9))
+  ]
 
   write_by : (held : Option DescRec) → ((d : DescRec) → held ≡ Some d → IsNamed r process.descs (argument_of caller_saved 0) d) → length process.descs ≡ 8
       → KeepsSound r (planned_write_on pages (caller_with slot trap head caller_saved) held)
@@ -193,16 +215,20 @@ module _ (r : Records) (head : HeadRec) (slot : ℕ) (process : ProcRec) (bank :
   pub number_keeps : (number : ℕ) → length process.descs ≡ 8 → KeepsSound r (planned_number r pages (caller_with slot trap head caller_saved) number)
   unfolding planned_number planned_write
   number_keeps number eight = elim (cases_Bool (number == 1)) [
-      inl exits ↦
+    | inl exits ↦
         let small : argument_of caller_saved 0 % 256 ≤ 0xff = omega arith in
         rw exits (exited_sound r head slot process bank trap sound is_head is (argument_of caller_saved 0 % 256) (inl small))
     | inr no_exit ↦ elim (cases_Bool (number == 2)) [
-      inl writes ↦ rw (no_exit, writes) (write_by (named r process.descs (argument_of caller_saved 0)) (λ d it. is_named r process.descs (argument_of caller_saved 0) d it) eight)
-    | inr no_write ↦ elim (cases_Bool (number == 7)) [
-      inl asks ↦ rw (no_exit, no_write, asks) (answered_sound r head slot process bank trap sound is_head is process.pid)
-    | inr no_pid ↦ elim (cases_Bool (number == 18)) [
-      inl yields ↦ rw (no_exit, no_write, no_pid, yields) (yielded_sound r head slot process bank trap sound is_head is)
-    | inr none ↦ rw (no_exit, no_write, no_pid, none) (answered_sound r head slot process bank trap sound is_head is (minus 38)) ] ] ] ]
+      | inl writes ↦ rw (no_exit, writes) (write_by (named r process.descs (argument_of caller_saved 0)) (λ d it. is_named r process.descs (argument_of caller_saved 0) d it) eight)
+      | inr no_write ↦ elim (cases_Bool (number == 7)) [
+        | inl asks ↦ rw (no_exit, no_write, asks) (answered_sound r head slot process bank trap sound is_head is process.pid)
+        | inr no_pid ↦ elim (cases_Bool (number == 18)) [
+          | inl yields ↦ rw (no_exit, no_write, no_pid, yields) (yielded_sound r head slot process bank trap sound is_head is)
+          | inr none ↦ rw (no_exit, no_write, no_pid, none) (answered_sound r head slot process bank trap sound is_head is (minus 38))
+        ]
+      ]
+    ]
+  ]
 
 pub call_keeps : (r : Records) (words : WordMap) (slot trap : ℕ) (head : HeadRec) (process : ProcRec) (bank : Bank) → AreSound r → r.head ≡ Some head → IsIn r slot process → length process.descs ≡ 8
     → KeepsSound r (planned_call r words slot trap head process bank)
@@ -218,4 +244,4 @@ piece_keeps r words slot trap head process sound is_head is it =
     let t = it.transfer in
     let write : IsWrite r process d = record { descriptor = t.descriptor; named = t.named; there = t.there; allowed = t.allowed; count = t.count } in
     subst (λ (held : Option DescRec). KeepsSound r (planned_further (pages_of r words slot process) (caller_with slot trap head process) held)) (sym it.is_named)
-        (tty_keeps r head slot process (bank_of process) trap sound is_head is (pages_of r words slot process) d d.index process.done write t.left)
+    (tty_keeps r head slot process (bank_of process) trap sound is_head is (pages_of r words slot process) d d.index process.done write t.left)
