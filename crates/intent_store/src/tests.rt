@@ -125,6 +125,16 @@ fn one(v: u32) -> Option<Patch>
     Some(patch)
 }
 
+fn two(v: u32) -> Option<Patch>
+    requires { v < 2 }
+    ensures { IfSome result (λ patch. (r : Records) → IsCommittable r patch.items.items) }
+{
+    let mut patch = Patch::new();
+    patch.put(RecordId::Head, AnyRec::Head(head(v)?));
+    patch.put(RecordId::Exit(256), AnyRec::Exit(exit(v)?));
+    Some(patch)
+}
+
 fn three(v: u32) -> Option<Patch>
     requires { v < 2 }
     ensures { IfSome result (λ patch. (r : Records) → IsCommittable r patch.items.items) }
@@ -133,6 +143,31 @@ fn three(v: u32) -> Option<Patch>
     patch.put(RecordId::Head, AnyRec::Head(head(v)?));
     patch.put(RecordId::Term(1), AnyRec::Term(term(v)?));
     patch.put(RecordId::Row(47), AnyRec::Row(row(v)?));
+    Some(patch)
+}
+
+fn four(v: u32) -> Option<Patch>
+    requires { v < 2 }
+    ensures { IfSome result (λ patch. (r : Records) → IsCommittable r patch.items.items) }
+{
+    let mut patch = Patch::new();
+    patch.put(RecordId::Head, AnyRec::Head(head(v)?));
+    patch.put(RecordId::Proc(15), AnyRec::Proc(proc(v)?));
+    patch.put(RecordId::Exit(256), AnyRec::Exit(exit(v)?));
+    patch.put(RecordId::Desc(31), AnyRec::Desc(desc(v)?));
+    Some(patch)
+}
+
+fn five(v: u32) -> Option<Patch>
+    requires { v < 2 }
+    ensures { IfSome result (λ patch. (r : Records) → IsCommittable r patch.items.items) }
+{
+    let mut patch = Patch::new();
+    patch.put(RecordId::Row(47), AnyRec::Row(row(v)?));
+    patch.put(RecordId::Sig(15), AnyRec::Sig(sig(v)?));
+    patch.put(RecordId::File(31), AnyRec::File(file(v)?));
+    patch.put(RecordId::Cache(63), AnyRec::Cache(cache(v)?));
+    patch.put(RecordId::Term(1), AnyRec::Term(term(v)?));
     Some(patch)
 }
 
@@ -157,7 +192,10 @@ fn patch_of(count: u32, v: u32) -> Option<Patch>
 {
     match count {
         1 => one(v),
+        2 => two(v),
         3 => three(v),
+        4 => four(v),
+        5 => five(v),
         _ => six(v),
     }
 }
@@ -308,7 +346,7 @@ struct Case {
     opens: u32,
 }
 
-const CASES: [Case; 3] = [
+const CASES: [Case; 6] = [
     Case {
         count: 1,
         ranges: &[(16, 1008), (11280, 4), (12284, 4)],
@@ -316,10 +354,36 @@ const CASES: [Case; 3] = [
         opens: 8,
     },
     Case {
+        count: 2,
+        ranges: &[(0, 1024), (11280, 4), (12284, 4)],
+        stores: 49,
+        opens: 27,
+    },
+    Case {
         count: 3,
         ranges: &[(0, 1024), (11280, 4), (7696, 16), (9320, 24)],
         stores: 124,
         opens: 66,
+    },
+    Case {
+        count: 4,
+        ranges: &[(0, 1024), (11280, 4), (2944, 128), (4080, 16), (12284, 4)],
+        stores: 343,
+        opens: 177,
+    },
+    Case {
+        count: 5,
+        ranges: &[
+            (16, 1008),
+            (11280, 4),
+            (3552, 32),
+            (7072, 96),
+            (7672, 8),
+            (7696, 16),
+            (9320, 24),
+        ],
+        stores: 370,
+        opens: 192,
     },
     Case {
         count: 6,
