@@ -1,0 +1,55 @@
+-- What a service makes of what is held, and what a refusal may leave of it.
+use Rattle.std.specs.Prelude.{◌≡◌, ℕ, ◌+◌, ◌<◌, ◌≤◌, ◌⊎◌, Bool, true, false, List, All, length}
+use Rattle.ow_base.specs.Pages.{bytes_at}
+use Rattle.phys_memory.specs.Memory.{words_of}
+use Rattle.record_layouts.specs.declared.patch.PatchItem.{PatchItem}
+use Rattle.record_layouts.specs.declared.patch.AnyRec.{AnyRec}
+use Rattle.record_layouts.specs.declared.patch.AnyRec.TheVariants as any
+use Rattle.record_layouts.specs.Held.{Held, patched}
+use Rattle.syscalls.specs.Planned.{Planned, PlanOnce, PlanWrite, pages_in}
+use Rattle.ow_plant.specs.State.{PlantState, tty_of}
+use Rattle.intent_store.specs.Live.{held_of, records_held}
+use Rattle.kernel_traps.specs.Putting.{IsPut, IsPutPartly}
+
+-- the bytes of the process in a slot
+abbrev pub bytes_of : PlantState → (slot from len : ℕ) → List ℕ
+bytes_of s slot from len = bytes_at (pages_in (records_held s) (words_of s.memory) slot) from len
+
+-- bytes are counted and out, and then the records of a patch are set
+abbrev pub IsWritten : Held PlantState → (tty : ℕ) → (bytes : List ℕ) → List PatchItem → Held PlantState → Type 0
+IsWritten h tty bytes items new = (put : Held PlantState) × IsPut h tty bytes bytes put × (new ≡ patched items put)
+
+-- what is held once a service is carried out
+abbrev pub IsCarriedOut : PlantState → (slot : ℕ) → Planned → Held PlantState → Type 0
+IsCarriedOut s slot (PlanOnce items) new = new ≡ patched items (held_of s)
+IsCarriedOut s slot (PlanWrite tty from len items) new = IsWritten (held_of s) tty (bytes_of s slot from len) items new
+
+-- What a refusal may leave of a write: some of the bytes, all of them without the patch, or all was done.
+abbrev pub MayBeLeftOfWrite : Held PlantState → (tty : ℕ) → (bytes : List ℕ) → List PatchItem → Held PlantState → Type 0
+MayBeLeftOfWrite h tty bytes items new = IsPutPartly h tty bytes new ⊎ (IsPut h tty bytes bytes new ⊎ IsWritten h tty bytes items new)
+
+-- and of any service: where it writes nothing all is as it was, or the patch is set
+abbrev pub MayBeLeft : PlantState → (slot : ℕ) → Planned → Held PlantState → Type 0
+MayBeLeft s slot (PlanOnce items) new = (new ≡ held_of s) ⊎ (new ≡ patched items (held_of s))
+MayBeLeft s slot (PlanWrite tty from len items) new = MayBeLeftOfWrite (held_of s) tty (bytes_of s slot from len) items new
+
+-- the records of a plan
+abbrev pub items_in : Planned → List PatchItem
+items_in (PlanOnce items) = items
+items_in (PlanWrite tty from len items) = items
+
+-- a record of the head, of a process, of its signals or of its exit
+abbrev pub is_of_process : AnyRec → Bool
+is_of_process (any.Head head) = true
+is_of_process (any.Proc process) = true
+is_of_process (any.Sig signals) = true
+is_of_process (any.Exit exit) = true
+is_of_process other = false
+
+-- the records of a patch are such: no description, file, cache entry, terminal or row is in it
+abbrev pub AreOfProcesses : List PatchItem → Type 0
+AreOfProcesses items = All (λ (item : PatchItem). is_of_process item.rec ≡ true) items
+
+-- each terminal has room for the bytes of a piece
+pub record HasRoom (s : PlantState) : Type 0 where
+  pub each : (tty : ℕ) → tty < 2 → length (tty_of s tty).tape + 16 ≤ (tty_of s tty).room

@@ -1,0 +1,39 @@
+-- How a trap ends: what its plan must be, what is so once it is carried out, and what a refusal may leave.
+use Rattle.std.specs.Prelude.{◌≡◌, ℕ, ◌<◌, ◌≤◌, true, List, Option, Some, None}
+use Rattle.record_layouts.specs.declared.head.HeadRec.{HeadRec}
+use Rattle.record_layouts.specs.Held.{Records, with_items}
+use Rattle.syscalls.specs.Planned.{Planned, PlanOnce, PlanWrite}
+use Rattle.syscalls.specs.Serving.{CanCall}
+use Rattle.syscalls.specs.Done.{KeepsSound}
+use Rattle.ow_plant.specs.State.{PlantState, left_trap}
+use Rattle.intent_store.specs.Live.{held_of}
+use Rattle.kernel_traps.specs.Plants.{AreInWrites}
+use Rattle.kernel_traps.specs.Carrying.{AreOfProcesses, IsCarriedOut, MayBeLeft, items_in}
+
+-- A plan that ends a trap: it sets records of the head and of processes alone, records stay sound, no process comes into
+-- another call than a write, and the head says that this trap is served.
+pub record EndsTrap (r : Records) (trap : ℕ) (plan : Planned) : Type 0 where
+  pub of_processes : AreOfProcesses (items_in plan)
+  pub keeps_sound : KeepsSound r plan
+  pub in_writes : AreInWrites (with_items r (items_in plan))
+  pub head : HeadRec
+  pub is_head : (with_items r (items_in plan)).head ≡ Some head
+  pub served : head.served ≡ trap
+
+-- bytes of a process can be read where there are some to write
+abbrev pub CanBeServed : Records → (slot : ℕ) → Planned → Type 0
+CanBeServed r slot (PlanOnce items) = Unit {0}
+CanBeServed r slot (PlanWrite tty from len items) = CanCall r slot
+
+-- a plan that writes is of a trap that is a step: the terminals have the bytes of fewer steps
+abbrev pub HasStep : Planned → (bytes_of steps : ℕ) → Type 0
+HasStep (PlanOnce items) bytes_of steps = Unit {0}
+HasStep (PlanWrite tty from len items) bytes_of steps = bytes_of < steps
+
+-- the plan is carried out, and the trap has ended
+abbrev pub IsEnded : PlantState → (slot : ℕ) → Planned → PlantState → Type 0
+IsEnded s slot plan new = (done : PlantState) × IsCarriedOut s slot plan (held_of done) × (new ≡ left_trap done)
+
+-- what a refusal may leave of a trap; where its end is refused all was done
+abbrev pub MayBeLeftOfTrap : PlantState → (slot : ℕ) → Planned → PlantState → Type 0
+MayBeLeftOfTrap s slot plan new = (new.refused ≡ true) × MayBeLeft s slot plan (held_of new)

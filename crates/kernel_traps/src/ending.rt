@@ -1,0 +1,29 @@
+//! The end of a trap.
+ghost use Rattle.std.specs.Prelude.{◌≡◌, ℕ, ◌<◌, OnOk, OnErr};
+ghost use Rattle.phys_memory.specs.Memory.{words_of};
+ghost use Rattle.intent_store.specs.Live.{records_held};
+ghost use Rattle.syscalls.specs.Serving.{IsDoable, plan_of};
+ghost use Rattle.kernel_traps.specs.Plants.{IsInTrap, IsSound};
+ghost use Rattle.kernel_traps.specs.Ending.{CanBeServed, EndsTrap, HasStep, IsEnded, MayBeLeftOfTrap};
+
+use crate::services::carry_out;
+use intent_store::Live;
+use ow_base::Panicked;
+use ow_plant::Plant;
+use syscalls::Service;
+
+// Carries out the service of a trap, and ends the trap.
+pub(crate) fn end_trap(plant: &mut Plant, slot: u32, service: &Service) -> Result<(), Panicked>
+    requires trap { (steps : ℕ) × IsInTrap plant.old steps × HasStep (plan_of service.now) steps plant.old.steps }
+    requires plan { EndsTrap (records_held plant.old) plant.old.traps (plan_of service.now) }
+    requires can { CanBeServed (records_held plant.old) slot (plan_of service.now) }
+    requires doable { IsDoable (records_held plant.old) (words_of plant.old.memory) slot service.now }
+    requires slot { slot < 16 }
+    ensures ok { OnOk result (IsEnded plant.old slot (plan_of service.now) plant.new) }
+    ensures sound { OnOk result (IsSound plant.new) }
+    ensures err { OnErr result (MayBeLeftOfTrap plant.old slot (plan_of service.now) plant.new) }
+{
+    let mut live = Live::new(plant);
+    carry_out(&mut live, slot, service)?;
+    plant.leave()
+}

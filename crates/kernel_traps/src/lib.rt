@@ -1,0 +1,9 @@
+//! The traps of a kernel that runs: what a call asks for is carried out on the plant, so that its records count each
+//! byte before it goes out, and the trap ends with the last of its records.
+#![tactic(auto)]
+
+mod ending;
+mod services;
+mod turns;
+
+pub use turns::Turn;

@@ -1,0 +1,123 @@
+//! What a call asks for, carried out by the kernel that runs.
+ghost use Rattle.std.specs.Prelude.{◌≡◌, ◌⊎◌, ◌+◌, ◌<◌, ◌≤◌, [], ◌∷◌, false, true, length, OnOk, OnErr};
+ghost use Rattle.ow_base.specs.Pages.{is_readable};
+ghost use Rattle.phys_memory.specs.Memory.{words_of};
+ghost use Rattle.record_layouts.specs.Held.{IsCommittable};
+ghost use Rattle.ow_plant.specs.State.{tty_of};
+ghost use Rattle.intent_store.specs.Live.{IsStanding, held_of, records_held};
+ghost use Rattle.syscalls.specs.Planned.{pages_in};
+ghost use Rattle.syscalls.specs.Serving.{CanCall, IsDoable, IsWritable, plan_of};
+ghost use Rattle.tty_screen.specs.Shown.{TerminalDecodes};
+ghost use Rattle.kernel_traps.specs.Putting.{IsPut, IsPutPartly};
+ghost use Rattle.kernel_traps.specs.Carrying.{HasRoom, IsCarriedOut, IsWritten, MayBeLeft, MayBeLeftOfWrite, bytes_of, items_in};
+
+use address_space::user_bytes;
+use intent_store::Live;
+use ow_base::{Efault, Panicked};
+use record_layouts::{Patch, Writer};
+use syscalls::Service;
+use tty_screen::byte_patch;
+
+// The most bytes that one service writes.
+const PIECE: usize = 16;
+
+// Writes a byte on a terminal: its record counts the byte before it goes out.
+fn put_byte(live: &mut Live<'_>, tty: u32, byte: u8) -> Result<(), Panicked>
+    requires able { live.old.plant.now.refused ≡ false }
+    requires stands { IsStanding live.old.plant.now }
+    requires tty { tty < 2 }
+    requires decodes { TerminalDecodes (records_held live.old.plant.now) tty }
+    requires room { length (tty_of live.old.plant.now tty).tape < (tty_of live.old.plant.now tty).room }
+    ensures ok { OnOk result (IsPut (held_of live.old.plant.now) tty (byte ∷ []) (byte ∷ []) (held_of live.new.plant.now)) }
+    ensures err { OnErr result ((held_of live.new.plant.now ≡ held_of live.old.plant.now)
+        ⊎ IsPut (held_of live.old.plant.now) tty (byte ∷ []) [] (held_of live.new.plant.now)) }
+    ensures stays { OnOk result (live.new.plant.now.refused ≡ false) }
+    ensures cause { OnErr result (live.new.plant.now.refused ≡ true) }
+    ensures still_stands { IsStanding live.new.plant.now }
+    ensures same_reference { live.new.plant.ghost_name ≡ live.old.plant.ghost_name }
+{
+    let patch = byte_patch(&*live, tty, byte);
+    live.commit(&patch)?;
+    live.put(tty, byte)
+}
+
+// Writes bytes on a terminal, one after the other.
+fn put_bytes(live: &mut Live<'_>, tty: u32, bytes: &[u8]) -> Result<(), Panicked>
+    requires able { live.old.plant.now.refused ≡ false }
+    requires stands { IsStanding live.old.plant.now }
+    requires tty { tty < 2 }
+    requires decodes { TerminalDecodes (records_held live.old.plant.now) tty }
+    requires room { length (tty_of live.old.plant.now tty).tape + length bytes.now ≤ (tty_of live.old.plant.now tty).room }
+    ensures ok { OnOk result (IsPut (held_of live.old.plant.now) tty bytes.now bytes.now (held_of live.new.plant.now)) }
+    ensures err { OnErr result (IsPutPartly (held_of live.old.plant.now) tty bytes.now (held_of live.new.plant.now)) }
+    ensures stays { OnOk result (live.new.plant.now.refused ≡ false) }
+    ensures cause { OnErr result (live.new.plant.now.refused ≡ true) }
+    ensures still_stands { IsStanding live.new.plant.now }
+    ensures same_reference { live.new.plant.ghost_name ≡ live.old.plant.ghost_name }
+{
+    for byte in bytes {
+        put_byte(live, tty, *byte)?;
+    }
+    Ok(())
+}
+
+// Writes a piece of the process in the slot on a terminal, and sets the records of a patch behind it. The bytes are read
+// before any store.
+fn write_piece(
+    live: &mut Live<'_>,
+    slot: u32,
+    tty: u32,
+    from: u32,
+    len: u32,
+    patch: &Patch,
+) -> Result<(), Panicked>
+    requires able { live.old.plant.now.refused ≡ false }
+    requires stands { IsStanding live.old.plant.now }
+    requires can { CanCall (records_held live.old.plant.now) slot }
+    requires writable { IsWritable (records_held live.old.plant.now) (words_of live.old.plant.now.memory) slot tty from len }
+    requires patch { IsCommittable (records_held live.old.plant.now) patch.now.items.items }
+    requires room { HasRoom live.old.plant.now }
+    ensures ok { OnOk result (IsWritten (held_of live.old.plant.now) tty (bytes_of live.old.plant.now slot from len) patch.now.items.items (held_of live.new.plant.now)) }
+    ensures err { OnErr result (MayBeLeftOfWrite (held_of live.old.plant.now) tty (bytes_of live.old.plant.now slot from len) patch.now.items.items (held_of live.new.plant.now)) }
+    ensures stays { OnOk result (live.new.plant.now.refused ≡ false) }
+    ensures cause { OnErr result (live.new.plant.now.refused ≡ true) }
+    ensures still_stands { IsStanding live.new.plant.now }
+    ensures same_reference { live.new.plant.ghost_name ≡ live.old.plant.ghost_name }
+{
+    let mut room = [0; PIECE];
+    let bytes = &mut room[..len as usize];
+    let Ok(()) = user_bytes(&*live, slot, from, bytes) else {
+        unreachable!()
+    };
+    put_bytes(live, tty, bytes)?;
+    live.commit(patch)
+}
+
+/// Does what a call asks for: the bytes of the process go out, each counted first, and the patch is committed last.
+///
+/// `Panicked` comes only where a store was refused. Then a front of the bytes is out, of the next one the terminal's
+/// record may know, and the patch is set only where all of them are out.
+pub(crate) fn carry_out(live: &mut Live<'_>, slot: u32, service: &Service) -> Result<(), Panicked>
+    requires able { live.old.plant.now.refused ≡ false }
+    requires stands { IsStanding live.old.plant.now }
+    requires can { CanCall (records_held live.old.plant.now) slot }
+    requires doable { IsDoable (records_held live.old.plant.now) (words_of live.old.plant.now.memory) slot service.now }
+    requires patch { IsCommittable (records_held live.old.plant.now) (items_in (plan_of service.now)) }
+    requires room { HasRoom live.old.plant.now }
+    ensures ok { OnOk result (IsCarriedOut live.old.plant.now slot (plan_of service.now) (held_of live.new.plant.now)) }
+    ensures err { OnErr result (MayBeLeft live.old.plant.now slot (plan_of service.now) (held_of live.new.plant.now)) }
+    ensures stays { OnOk result (live.new.plant.now.refused ≡ false) }
+    ensures cause { OnErr result (live.new.plant.now.refused ≡ true) }
+    ensures still_stands { IsStanding live.new.plant.now }
+    ensures same_reference { live.new.plant.ghost_name ≡ live.old.plant.ghost_name }
+{
+    match service {
+        Service::Once { patch } => live.commit(patch),
+        Service::TtyWrite {
+            tty,
+            from,
+            len,
+            patch,
+        } => write_piece(live, slot, *tty, *from, *len, patch),
+    }
+}
