@@ -11,7 +11,7 @@ mod opening;
 mod payload;
 mod word_store;
 
-pub use live::Live;
+pub use live::{Live, live_records};
 
 #[cfg(test)]
 mod tests;

@@ -19,6 +19,33 @@ const AREA_FRAMES: u32 = 64;
 
 const KERNEL_FRAMES: u32 = 128;
 
+// Where the frames of the kernel are that runs on a plant.
+fn live_map(plant: &Plant) -> MemoryMap
+    ensures map { result ≡ map_of plant.now }
+    ensures fits { FitsMap result }
+{
+    let now = plant.now();
+    let area_base = match plant.live() {
+        AreaId::A => 1,
+        AreaId::B => 1 + KERNEL_FRAMES + now.user_frames,
+    };
+    MemoryMap {
+        area_base,
+        cache_base: area_base + AREA_FRAMES,
+        pool_base: area_base + KERNEL_FRAMES,
+        user_frames: now.user_frames,
+        sectors: now.sectors,
+    }
+}
+
+/// The records of the kernel that runs on a plant, for one that only reads: those of the live area.
+pub fn live_records(plant: &Plant) -> AreaView<'_, Plant>
+    ensures source { result.source.now ≡ plant.now }
+    ensures map { result.map ≡ map_of plant.now }
+{
+    AreaView::new(plant, live_map(plant))
+}
+
 /// The records of the kernel that runs on a plant, and the stores that change them. Its area is the live one.
 #[derive(Drop)]
 pub struct Live<'p> {
@@ -61,25 +88,14 @@ impl Live<'_> {
         ensures map { result ≡ map_of self.now.plant.now }
         ensures fits { FitsMap result }
     {
-        let now = self.plant.now();
-        let area_base = match self.plant.live() {
-            AreaId::A => 1,
-            AreaId::B => 1 + KERNEL_FRAMES + now.user_frames,
-        };
-        MemoryMap {
-            area_base,
-            cache_base: area_base + AREA_FRAMES,
-            pool_base: area_base + KERNEL_FRAMES,
-            user_frames: now.user_frames,
-            sectors: now.sectors,
-        }
+        live_map(&*self.plant)
     }
 
     fn view(&self) -> AreaView<'_, Plant>
         ensures source { result.source.now ≡ self.now.plant.now }
         ensures map { result.map ≡ map_of self.now.plant.now }
     {
-        AreaView::new(&*self.plant, self.map())
+        live_records(&*self.plant)
     }
 }
 
