@@ -14,7 +14,7 @@ use Rattle.intent_store.specs.Live.{held_of, rest_of}
 use Rattle.kernel_traps.specs.Putting.{AreCounted, AreDrawn, CountsBytes, IsPut, IsPutPartly, counted_after, last_of, puts_on, with_puts}
 
 -- folds over bytes, in two parts
-drawn_all-then : (screen : Screen) (xs ys : List ℕ) → drawn_all screen (xs ++ ys) ≡ drawn_all (drawn_all screen xs) ys
+pub drawn_all-then : (screen : Screen) (xs ys : List ℕ) → drawn_all screen (xs ++ ys) ≡ drawn_all (drawn_all screen xs) ys
 drawn_all-then screen [] ys = refl
 drawn_all-then screen (x ∷ xs) ys = drawn_all-then (drawn screen x) xs ys
 
