@@ -1,5 +1,5 @@
 -- A trap begins on a sound plant.
-use Rattle.std.proofs.Common.{◌≡◌, ◌+◌, ◌-◌, ◌^◌, ◌<◌, ◌≤◌, ℕ, refl, arith}
+use Rattle.std.proofs.Common.{◌≡◌, ◌+◌, ◌-◌, ◌^◌, ◌<◌, ◌≤◌, ℕ, true, false, refl, arith}
 use Rattle.ow_plant.specs.State.{PlantState, risen}
 use Rattle.kernel_traps.specs.Plants.{IsSound, IsInTrap}
 
