@@ -161,9 +161,9 @@ write_kept s new steps tty from len bytes items put trap step ends low short is 
     let now : records_held new ≡ with_items (shown_by r put.records.terms put.records.rows) items = records ∙ ap (λ (q : Records). with_items q items) between in
     let beside : records_held new ≡ shown_by (with_items r items) put.records.terms put.records.rows = now ∙ items_beside r put.records.terms put.records.rows items of in
     let sound : AreSound (shown_by r put.records.terms put.records.rows) =
-        between_sound r put.records tty bytes trap.held.records is.drawn
-        (λ other. subst (λ (f : ℕ → Option TermRec). IfSome (f other) FitsTerm) terms (values.terms other))
-        (λ i. subst (λ (f : ℕ → Option RowRec). IfSome (f i) FitsRow) rows (values.rows i)) in
+    between_sound r put.records tty bytes trap.held.records is.drawn
+    (λ other. subst (λ (f : ℕ → Option TermRec). IfSome (f other) FitsTerm) terms (values.terms other))
+    (λ i. subst (λ (f : ℕ → Option RowRec). IfSome (f i) FitsRow) rows (values.rows i)) in
     record {
       tty0 = (with_puts (rest_of s) tty bytes).tty0;
       tty1 = (with_puts (rest_of s) tty bytes).tty1;

@@ -48,7 +48,7 @@ of_device-put : (old new : Records) (tty : ℕ) (bytes : List ℕ) (device : Dev
 of_device-put old new tty bytes device before after shows few counts is =
     let more : length (device.tape ++ bytes) ≡ length device.tape + length bytes = length-append device.tape bytes in
     let screen : drawn_all (screen_of (drop before.base device.tape)) bytes ≡ screen_of (drop after.base (device.tape ++ bytes)) =
-        screen_behind before.base device.tape bytes is.base ∙ ap (λ (n : ℕ). screen_of (drop n (device.tape ++ bytes))) (sym counts.base) in
+    screen_behind before.base device.tape bytes is.base ∙ ap (λ (n : ℕ). screen_of (drop n (device.tape ++ bytes))) (sym counts.base) in
     record {
       counted = counts.written ∙ counted_is before.written bytes (omega (arith, is.counted)) ∙ omega (arith, is.counted, more);
       base = omega (arith, counts.base, is.base, more);

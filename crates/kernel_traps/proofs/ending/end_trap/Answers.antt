@@ -21,9 +21,9 @@ pub returns-clause-sound : goal.returns-clause-sound
 returns-clause-sound c =
     let done : PlantState = c.carry_out.new.live.plant.now in
     let carried : IsCarriedOut c.args.plant.now c.args.slot (plan_of c.args.service.now) (held_of done) =
-        subst (λ (s : PlantState). IsCarriedOut s c.args.slot (plan_of c.args.service.now) (held_of done)) c.new-live.ensures.plant c.in_ok-carry_out.ensures.ok in
+    subst (λ (s : PlantState). IsCarriedOut s c.args.slot (plan_of c.args.service.now) (held_of done)) c.new-live.ensures.plant c.in_ok-carry_out.ensures.ok in
     let sound : IsSound (left_trap done) =
-        carried_sound c.args.plant.now done c.requires.trap.0 c.args.slot (plan_of c.args.service.now) c.requires.trap.1 c.requires.trap.2 c.requires.plan
-        (short _ _ _ c.args.service.now c.requires.doable) carried c.in_ok-carry_out.ensures.stays c.in_ok-carry_out.ensures.shut c.carry_out.ensures.still_stands in
+    carried_sound c.args.plant.now done c.requires.trap.0 c.args.slot (plan_of c.args.service.now) c.requires.trap.1 c.requires.trap.2 c.requires.plan
+    (short _ _ _ c.args.service.now c.requires.doable) carried c.in_ok-carry_out.ensures.stays c.in_ok-carry_out.ensures.shut c.carry_out.ensures.still_stands in
     let ended : OnOk c.leave.result (c.leave.new.self ≡ left_trap done) = search rules in
     on_ok c.leave.result (c.leave.new.self ≡ left_trap done) (IsSound c.leave.new.self) (λ is. subst IsSound (sym is) sound) ended

@@ -9,8 +9,8 @@ use Rattle.kernel_traps.proofs.services.put_bytes.Goals as goal
 pub returns-in_err-put_byte-clause-err : goal.returns-in_err-put_byte-clause-err
 returns-in_err-put_byte-clause-err c =
     at_err c.from_residual.result _
-        (put_partly (held_of c.args.live.now.plant.now) (held_of c.loop-byte.live.plant.now) (held_of c.put_byte.new.live.plant.now) c.args.tty c.args.bytes.now c.loop-byte.byte-index
-            (omega arith) c.loop-byte.invariant.put c.in_err-put_byte.ensures.err)
+    (put_partly (held_of c.args.live.now.plant.now) (held_of c.loop-byte.live.plant.now) (held_of c.put_byte.new.live.plant.now) c.args.tty c.args.bytes.now c.loop-byte.byte-index
+    (omega arith) c.loop-byte.invariant.put c.in_err-put_byte.ensures.err)
 
 pub loop-byte-preserved : goal.loop-byte-preserved
 loop-byte-preserved c =
