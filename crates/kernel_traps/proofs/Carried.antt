@@ -1,5 +1,5 @@
 -- Once a service is carried out the plant is sound again as the trap is left.
-use Rattle.std.proofs.Common.{◌≡◌, ◌≢◌, ◌==◌, ◌+◌, ◌-◌, ◌*◌, ◌^◌, ◌<◌, ◌≤◌, min, ℕ, zero, suc, true, false, if◌then◌else◌, List, length, Option, Some, None, IfSome, is_some, inl, inr, refl, sym, ap, subst, ◌∙◌, arith}
+use Rattle.std.proofs.Common.{◌≡◌, ◌≢◌, ◌==◌, ◌+◌, ◌^◌, ◌<◌, ◌≤◌, ℕ, zero, suc, false, List, length, Option, Some, IfSome, inl, inr, refl, sym, ap, subst, ◌∙◌, arith}
 use Rattle.std.proofs.lemmas.Bool.{cases_Bool}
 use Rattle.ow_base.specs.Pages.{Pages, bytes_at}
 use Rattle.phys_memory.specs.Memory.{words_of}
@@ -20,10 +20,10 @@ use Rattle.ow_plant.specs.State.{PlantState, left_trap, risen, tty_of, Terminal 
 use Rattle.intent_store.specs.Live.{IsStanding, gate_held, held_of, map_of, records_held, rest_of}
 use Rattle.kernel_traps.specs.Plants.{AreInWrites, AreTerminalsSound, HasBytes, IsInTrap, IsOfDevice, IsSound}
 use Rattle.kernel_traps.specs.Putting.{AreDrawn, IsPut, with_puts}
-use Rattle.kernel_traps.specs.Carrying.{AreOfProcesses, IsCarriedOut, bytes_of, items_in}
+use Rattle.kernel_traps.specs.Carrying.{IsCarriedOut, bytes_of}
 use Rattle.kernel_traps.specs.Ending.{EndsTrap, HasStep}
 use Rattle.kernel_traps.proofs.OfProcesses.{items_beside, same_descs, same_rows, same_terms, shown_by}
-use Rattle.kernel_traps.proofs.ShownSound.{AreShown, drawn_rows, drawn_terms, shown_sound, writes_too}
+use Rattle.kernel_traps.proofs.ShownSound.{drawn_rows, drawn_terms, shown_sound, writes_too}
 use Rattle.kernel_traps.proofs.Terminals.{has_bytes, of_device-same, of_devices}
 
 -- what is written is short, and goes to a terminal that there is

@@ -1,5 +1,5 @@
 -- What is held once a write is carried out is what the call asked for.
-use Rattle.std.proofs.Common.{◌≡◌, ◌≢◌, ◌∙◌, ◌==◌, ◌+◌, ◌*◌, ◌/◌, ◌^◌, ◌-◌, ◌<◌, ◌≤◌, min, ℕ, zero, suc, List, [], ◌∷◌, ◌++◌, length, Option, Some, None, IfSome, refl, sym, ap, subst, arith, length-append}
+use Rattle.std.proofs.Common.{◌≡◌, ◌≢◌, ◌∙◌, ◌+◌, ◌^◌, ◌<◌, ℕ, zero, suc, List, [], ◌∷◌, ◌++◌, length, Option, Some, None, IfSome, refl, sym, ap, subst, arith, length-append}
 use Rattle.std.proofs.lemmas.Bool.Decides.{nat_tests}
 use Rattle.std.proofs.lemmas.Grind.{common_steps}
 use Rattle.ow_base.specs.Pages.{bytes_at}
@@ -7,15 +7,15 @@ use Rattle.phys_memory.specs.Memory.{words_of}
 use Rattle.record_layouts.specs.declared.term.TermRec.{TermRec}
 use Rattle.record_layouts.specs.declared.proc.ProcRec.{ProcRec}
 use Rattle.record_layouts.specs.declared.patch.PatchItem.{PatchItem}
-use Rattle.record_layouts.specs.Held.{Held, patched}
+use Rattle.record_layouts.specs.Held.{Held}
 use Rattle.record_layouts.specs.Decode.{tape_by}
 use Rattle.syscalls.specs.Done.{AreCounted as IsTold, AreCountedBy, AreWritten, IsDone}
 use Rattle.syscalls.specs.Planned.{PlanWrite, pages_if}
 use Rattle.ow_plant.specs.State.{PlantState, risen}
 use Rattle.intent_store.specs.Live.{held_of, records_held, rest_of}
 use Rattle.kernel_traps.specs.Plants.{tapes_of}
-use Rattle.kernel_traps.specs.Putting.{AreCounted, CountsBytes, IsPut, counted_after, with_puts}
-use Rattle.kernel_traps.specs.Carrying.{IsCarriedOut, IsWritten, bytes_of}
+use Rattle.kernel_traps.specs.Putting.{AreCounted, CountsBytes, counted_after, with_puts}
+use Rattle.kernel_traps.specs.Carrying.{IsCarriedOut, bytes_of}
 
 own_tape : (s : PlantState) (tty : ℕ) (bytes : List ℕ) → tty < 2 → tapes_of (with_puts s tty bytes) tty ≡ tapes_of s tty ++ bytes
 own_tape s zero bytes low = refl

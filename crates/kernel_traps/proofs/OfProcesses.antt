@@ -1,5 +1,5 @@
 -- A patch of processes changes no description, no terminal and no row, and does not read them.
-use Rattle.std.proofs.Common.{◌≡◌, ◌<◌, ◌+◌, ℕ, suc, true, List, [], ◌∷◌, Option, refl, sym, ap, ◌∙◌, arith}
+use Rattle.std.proofs.Common.{◌≡◌, ℕ, suc, true, List, [], ◌∷◌, Option, refl, ap, ◌∙◌, arith}
 use Rattle.record_layouts.specs.declared.term.TermRec.{TermRec}
 use Rattle.record_layouts.specs.declared.row.RowRec.{RowRec}
 use Rattle.record_layouts.specs.declared.places.RecordId.{RecordId}

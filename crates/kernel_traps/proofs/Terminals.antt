@@ -1,7 +1,6 @@
 -- Terminals are sound once bytes are out.
-use Rattle.std.proofs.Common.{◌≡◌, ◌≢◌, ◌⊎◌, ◌==◌, ◌+◌, ◌*◌, ◌^◌, ◌<◌, ◌≤◌, ℕ, zero, suc, List, ◌++◌, length, drop, Option, Some, None, IfSome, inl, inr, refl, sym, ap, subst, ◌∙◌, arith, length-append}
-use Rattle.std.proofs.lemmas.Bool.Decides.{eqb_tells, nat_tests}
-use Rattle.std.proofs.lemmas.Grind.{common_steps}
+use Rattle.std.proofs.Common.{◌≡◌, ◌≢◌, ◌+◌, ◌^◌, ◌<◌, ◌≤◌, ℕ, zero, suc, List, ◌++◌, length, drop, Option, Some, None, IfSome, inl, inr, refl, sym, ap, subst, ◌∙◌, arith, length-append}
+use Rattle.std.proofs.lemmas.Bool.Decides.{eqb_tells}
 use Rattle.std.proofs.lemmas.List.{drop-append-le}
 use Rattle.ow_base.specs.Screen.{Screen, drawn_all, screen_of}
 use Rattle.record_layouts.specs.declared.term.TermRec.{TermRec}
@@ -11,7 +10,7 @@ use Rattle.tty_screen.specs.Shown.{ShowsScreen}
 use Rattle.tty_screen.proofs.ShownScreens.{shows_same}
 use Rattle.ow_plant.specs.State.{PlantState, tty_of, Terminal as Device}
 use Rattle.kernel_traps.specs.Plants.{HasBytes, IsOfDevice}
-use Rattle.kernel_traps.specs.Putting.{AreCounted, AreDrawn, CountsBytes, counted_after, puts_on, with_puts}
+use Rattle.kernel_traps.specs.Putting.{AreCounted, AreDrawn, CountsBytes, puts_on, with_puts}
 use Rattle.kernel_traps.proofs.Puts.{drawn_all-then}
 use Rattle.kernel_traps.proofs.Done.{counted_is}
 
