@@ -1,5 +1,5 @@
 -- A trap begins on a sound plant.
-use Rattle.std.proofs.Common.{◌≡◌, ◌<◌, ◌≤◌, ℕ, refl, arith}
+use Rattle.std.proofs.Common.{◌≡◌, ◌+◌, ◌-◌, ◌^◌, ◌<◌, ◌≤◌, ℕ, true, false, refl, arith}
 use Rattle.ow_plant.specs.State.{PlantState, risen}
 use Rattle.kernel_traps.specs.Plants.{IsSound, IsInTrap}
 
@@ -7,8 +7,8 @@ use Rattle.kernel_traps.specs.Plants.{IsSound, IsInTrap}
 abbrev pub begun : PlantState → PlantState
 begun s = record s { in_user = false; in_trap = true; traps = risen s.traps; stores = 0; steps = risen s.steps }
 
-pub begins : (s : PlantState) → IsSound s → s.steps < s.shape.budget → IsInTrap (begun s) s.steps
-begins s sound left = record {
+pub begins : (s : PlantState) → IsSound s → s.steps < s.shape.budget → s.traps + 1 < 2 ^ 32 - 1 → IsInTrap (begun s) s.steps
+begins s sound left few = record {
   held = record {
     armed = record { armed = sound.held.armed.armed; sized = sound.held.armed.sized; few_frames = sound.held.armed.few_frames };
     able = sound.held.able;
@@ -20,6 +20,7 @@ begins s sound left = record {
   a_trap_runs = refl;
   in_kernel = refl;
   served = rw sound.no_trap_runs at sound.served;
+  fits = omega arith;
   counted = omega (arith, sound.budget, sound.most, left);
   terminals = record { records = sound.terminals.records; bytes = sound.terminals.bytes };
   budget = omega (arith, sound.most, left);

@@ -1,20 +1,19 @@
 -- Bytes that are put, one behind the other.
-use Rattle.std.proofs.Common.{◌≡◌, ◌≢◌, ◌∙◌, ◌⊎◌, ◌==◌, ◌+◌, ◌<◌, ℕ, Bool, true, false, List, [], ◌∷◌, ◌++◌, length, take, get_or, Option, Some, None, is_some, inl, inr, refl, sym, ap, subst, arith, append_assoc}
+use Rattle.std.proofs.Common.{◌≡◌, ◌∙◌, ◌⊎◌, ◌==◌, ◌+◌, ◌<◌, ℕ, true, List, [], ◌∷◌, ◌++◌, length, take, get_or, Option, Some, None, is_some, inl, inr, refl, sym, ap, subst, append_assoc}
 use Rattle.std.proofs.lemmas.Bool.{cases_Bool}
-use Rattle.std.proofs.lemmas.Grind.{common_steps}
 use Rattle.std.proofs.lemmas.List.{take_more}
 use Rattle.ow_base.specs.Screen.{Screen, drawn, drawn_all}
 use Rattle.record_layouts.specs.declared.term.TermRec.{TermRec}
 use Rattle.record_layouts.specs.declared.patch.PatchItem.{PatchItem}
 use Rattle.record_layouts.specs.Held.{Held, Records, patched, with_items}
-use Rattle.tty_screen.specs.Drawing.{DrawsByte, IsCounted, IsRowOf, StaysBeside}
+use Rattle.tty_screen.specs.Drawing.{DrawsByte, IsCounted, StaysBeside}
 use Rattle.tty_screen.specs.Shown.{ShowsScreen, TerminalDecodes}
-use Rattle.ow_plant.specs.State.{PlantState, refusal, risen, tty_of, with_put, Terminal as Device}
+use Rattle.ow_plant.specs.State.{PlantState, refusal, risen, with_put, Terminal as Device}
 use Rattle.intent_store.specs.Live.{held_of, rest_of}
 use Rattle.kernel_traps.specs.Putting.{AreCounted, AreDrawn, CountsBytes, IsPut, IsPutPartly, counted_after, last_of, puts_on, with_puts}
 
 -- folds over bytes, in two parts
-drawn_all-then : (screen : Screen) (xs ys : List ℕ) → drawn_all screen (xs ++ ys) ≡ drawn_all (drawn_all screen xs) ys
+pub drawn_all-then : (screen : Screen) (xs ys : List ℕ) → drawn_all screen (xs ++ ys) ≡ drawn_all (drawn_all screen xs) ys
 drawn_all-then screen [] ys = refl
 drawn_all-then screen (x ∷ xs) ys = drawn_all-then (drawn screen x) xs ys
 

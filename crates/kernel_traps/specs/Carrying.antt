@@ -53,3 +53,8 @@ AreOfProcesses items = All (λ (item : PatchItem). is_of_process item.rec ≡ tr
 -- each terminal has room for the bytes of a piece
 pub record HasRoom (s : PlantState) : Type 0 where
   pub each : (tty : ℕ) → tty < 2 → length (tty_of s tty).tape + 16 ≤ (tty_of s tty).room
+
+-- what a plan writes has room
+abbrev pub HasRoomFor : PlantState → Planned → Type 0
+HasRoomFor s (PlanOnce items) = Unit {0}
+HasRoomFor s (PlanWrite tty from len items) = HasRoom s

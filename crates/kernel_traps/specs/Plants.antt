@@ -1,5 +1,5 @@
 -- Which state of the Unix a plant stands for, and what holds of it between turns and inside a trap.
-use Rattle.std.specs.Prelude.{◌≡◌, ℕ, ◌+◌, ◌*◌, ◌<◌, ◌≤◌, true, false, ◌==◌, if◌then◌else◌, List, [], length, drop, Option, Some, None, IfSome}
+use Rattle.std.specs.Prelude.{◌≡◌, ℕ, ◌+◌, ◌-◌, ◌*◌, ◌^◌, ◌<◌, ◌≤◌, true, false, ◌==◌, if◌then◌else◌, List, [], length, drop, Option, Some, None, IfSome}
 use Rattle.ow_base.specs.Screen.{screen_of}
 use Rattle.phys_memory.specs.Memory.{words_of}
 use Rattle.sv32_tables.specs.Spaces.{satp_of}
@@ -83,6 +83,7 @@ pub record IsInTrap (s : PlantState) (steps : ℕ) : Type 0 where
   pub a_trap_runs : s.in_trap ≡ true
   pub in_kernel : s.in_user ≡ false
   pub served : IfSome (records_held s).head (λ head. head.served < s.traps)
+  pub fits : s.traps < 2 ^ 32 - 1
   pub counted : steps ≤ s.steps
   pub terminals : AreTerminalsSound s steps
   pub budget : s.steps ≤ s.shape.budget

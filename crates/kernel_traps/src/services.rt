@@ -2,14 +2,16 @@
 ghost use Rattle.std.specs.Prelude.{◌≡◌, ◌⊎◌, ◌+◌, ◌<◌, ◌≤◌, [], ◌∷◌, false, true, length, OnOk, OnErr};
 ghost use Rattle.ow_base.specs.Pages.{is_readable};
 ghost use Rattle.phys_memory.specs.Memory.{words_of};
+ghost use Rattle.record_layouts.specs.declared.intent.Gate.TheVariants.{Closed};
 ghost use Rattle.record_layouts.specs.Held.{IsCommittable};
 ghost use Rattle.ow_plant.specs.State.{tty_of};
-ghost use Rattle.intent_store.specs.Live.{IsStanding, held_of, records_held};
+ghost use Rattle.intent_store.specs.Live.{IsStanding, gate_held, held_of, records_held};
 ghost use Rattle.syscalls.specs.Planned.{pages_in};
 ghost use Rattle.syscalls.specs.Serving.{CanCall, IsDoable, IsWritable, plan_of};
 ghost use Rattle.tty_screen.specs.Shown.{TerminalDecodes};
 ghost use Rattle.kernel_traps.specs.Putting.{IsPut, IsPutPartly};
-ghost use Rattle.kernel_traps.specs.Carrying.{HasRoom, IsCarriedOut, IsWritten, MayBeLeft, MayBeLeftOfWrite, bytes_of, items_in};
+ghost use Rattle.kernel_traps.specs.Carrying.{HasRoom, HasRoomFor, IsCarriedOut, IsWritten, MayBeLeft, MayBeLeftOfWrite, bytes_of, items_in};
+ghost use Rattle.kernel_traps.specs.Ending.{CanBeServed};
 
 use address_space::user_bytes;
 use intent_store::Live;
@@ -78,6 +80,7 @@ fn write_piece(
     requires patch { IsCommittable (records_held live.old.plant.now) patch.now.items.items }
     requires room { HasRoom live.old.plant.now }
     ensures ok { OnOk result (IsWritten (held_of live.old.plant.now) tty (bytes_of live.old.plant.now slot from len) patch.now.items.items (held_of live.new.plant.now)) }
+    ensures shut { OnOk result (gate_held live.new.plant.now ≡ Closed) }
     ensures err { OnErr result (MayBeLeftOfWrite (held_of live.old.plant.now) tty (bytes_of live.old.plant.now slot from len) patch.now.items.items (held_of live.new.plant.now)) }
     ensures stays { OnOk result (live.new.plant.now.refused ≡ false) }
     ensures cause { OnErr result (live.new.plant.now.refused ≡ true) }
@@ -100,11 +103,12 @@ fn write_piece(
 pub(crate) fn carry_out(live: &mut Live<'_>, slot: u32, service: &Service) -> Result<(), Panicked>
     requires able { live.old.plant.now.refused ≡ false }
     requires stands { IsStanding live.old.plant.now }
-    requires can { CanCall (records_held live.old.plant.now) slot }
+    requires can { CanBeServed (records_held live.old.plant.now) slot (plan_of service.now) }
     requires doable { IsDoable (records_held live.old.plant.now) (words_of live.old.plant.now.memory) slot service.now }
     requires patch { IsCommittable (records_held live.old.plant.now) (items_in (plan_of service.now)) }
-    requires room { HasRoom live.old.plant.now }
+    requires room { HasRoomFor live.old.plant.now (plan_of service.now) }
     ensures ok { OnOk result (IsCarriedOut live.old.plant.now slot (plan_of service.now) (held_of live.new.plant.now)) }
+    ensures shut { OnOk result (gate_held live.new.plant.now ≡ Closed) }
     ensures err { OnErr result (MayBeLeft live.old.plant.now slot (plan_of service.now) (held_of live.new.plant.now)) }
     ensures stays { OnOk result (live.new.plant.now.refused ≡ false) }
     ensures cause { OnErr result (live.new.plant.now.refused ≡ true) }
