@@ -2,3 +2,5 @@ pub mod Puts
 pub mod Done
 pub mod Entering
 pub mod OfMemory
+pub mod UnixBy
+pub mod Returning
