@@ -4,3 +4,5 @@ pub mod Entering
 pub mod OfMemory
 pub mod UnixBy
 pub mod Returning
+pub mod Causes
+pub mod Isolated

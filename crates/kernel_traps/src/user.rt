@@ -29,7 +29,7 @@ pub(crate) fn return_to(plant: &mut Plant, slot: u32)
     plant.to_user(process.pid, &bank, root);
 }
 
-#[tactic(auto, using(crate::proofs::Returning::returned_unix))]
+#[tactic(auto, using(crate::proofs::Causes::fault_status, crate::proofs::Isolated::sets_kept))]
 fn probe() -> u32
     ensures { result ≡ 1 }
 {
