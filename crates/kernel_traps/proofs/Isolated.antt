@@ -1,6 +1,6 @@
 -- What a program leaves of memory that stores in its pages alone: the records, the gate of the area, and the pages of
 -- all other processes.
-use Rattle.std.proofs.Common.{◌≡◌, ◌≢◌, ◌==◌, ◌&&◌, ◌⊎◌, if◌then◌else◌, ℕ, ◌+◌, ◌-◌, ◌/◌, ◌%◌, ◌^◌, ◌<◌, ◌≤◌, Bool, true, false, Option, Some, None, inl, inr, refl, sym, ap, subst, ◌∙◌, arith}
+use Rattle.std.proofs.Common.{◌≡◌, ◌≢◌, ◌==◌, ◌&&◌, ◌⊎◌, if◌then◌else◌, ℕ, ◌+◌, ◌-◌, ◌/◌, ◌%◌, ◌^◌, ◌<◌, ◌≤◌, Bool, true, false, List, Option, Some, None, inl, inr, refl, sym, ap, subst, ◌∙◌, arith}
 use Rattle.std.proofs.lemmas.Bool.{cases_Bool, cases_lt}
 use Rattle.std.proofs.lemmas.Bool.Decides.{nat_tests}
 use Rattle.ow_base.specs.Sv32.{WordMap, byte_of, word_or_zero}
@@ -11,9 +11,10 @@ use Rattle.sv32_tables.specs.Spaces.{Mapping, IsWritable}
 use Rattle.sv32_tables.proofs.Spaces.{SetsWords, elsewhere}
 use Rattle.record_layouts.specs.declared.intent.Gate.{Gate}
 use Rattle.record_layouts.specs.declared.intent.Gate.TheVariants.{Closed}
+use Rattle.record_layouts.specs.declared.memory_map.MemoryMap.{MemoryMap}
 use Rattle.record_layouts.specs.declared.proc.ProcRec.{ProcRec}
 use Rattle.record_layouts.specs.Held.{Records}
-use Rattle.record_layouts.specs.Overlay.{Area, area_at, gate_of, gate_word, open_or_broken, open_ranges, or_zero}
+use Rattle.record_layouts.specs.Overlay.{Area, WordRange, area_at, gate_of, gate_word, open_or_broken, open_ranges, or_zero}
 use Rattle.record_layouts.specs.Pages.{byte_on, frame_of, is_live, pages_of, region_of}
 use Rattle.record_layouts.specs.Proc.{FitsProc}
 use Rattle.record_layouts.specs.Reading.{records_of}
@@ -84,3 +85,57 @@ module _ (s : PlantState) (map : ℕ → Option Mapping) (few : s.shape.user_fra
 -- memory as it is
 pub kept_first : (s : PlantState) (map : ℕ → Option Mapping) → IsSized s.shape.user_frames s.memory → IsKept s map (record { memory = s.memory; satp = s.satp })
 kept_first s map sized = record { sized = sized; records = refl; beside = record { same = λ frame word apart. refl } }
+
+-- an intent is open or broken where the gate is not shut
+not_closed : (ranges : Option (List WordRange)) → open_or_broken ranges ≡ Closed → ⊥
+not_closed (Some ranges) e = cc
+not_closed None e = cc
+
+gate_zero : (area : Area) → gate_of area ≡ Closed → area gate_word ≡ 0
+gate_zero area e = elim (cases_Bool (area gate_word == 0)) [
+  | inl zero ↦ grind (arith, nat_tests)
+  | inr other ↦ absurd (not_closed (open_ranges area) (rw other at e))
+]
+
+-- the gate stays shut
+pub gate_stays : (s new : PlantState) (map : ℕ → Option Mapping) → ((page : ℕ) (mapping : Mapping) → map page ≡ Some mapping → (map_of s).pool_base ≤ mapping.frame)
+    → gate_held s ≡ Closed → AreKeptBeside map (words_of s.memory) (words_of new.memory) → map_of new ≡ map_of s → gate_held new ≡ Closed
+gate_stays s new map behind shut kept maps =
+    let base = (map_of s).area_base in
+    let apart : IsBesidePages map (base + gate_word / 1024) = λ page mapping e same. let low = behind page mapping e in absurd (omega (arith, low, same)) in
+    let zero : area_at (words_of s.memory) base gate_word ≡ 0 = gate_zero (area_at (words_of s.memory) base) shut in
+    let now : area_at (words_of new.memory) base gate_word ≡ 0 = ap or_zero (kept.same (base + gate_word / 1024) (gate_word % 1024) apart) ∙ zero in
+    shut_gate new base (sym (ap (λ (m : MemoryMap). m.area_base) maps)) now
+
+-- a page of a process has a number below 2^20
+page_small : (r : Records) (slot : ℕ) (process : ProcRec) (page frame : ℕ) → FitsProc process → is_live process ≡ true
+    → frame_of r slot process page ≡ Some frame → page < 2 ^ 20
+page_small r slot process page frame fits live found = elim (cases_lt page (2 ^ 20)) [
+  | inl small ↦ small
+  | inr large ↦
+      let end = low_end process fits live in
+      let none : region_of process page ≡ None = region_none process page (inr (omega (arith, end))) (inr (omega arith)) in
+      let has = frame_found r slot process page frame found in
+      let both : Some has.rights ≡ None = sym has.held ∙ none in
+      absurd (cc both)
+]
+
+-- what one process leaves of the pages of another
+module _ (r : Records) (words after : WordMap) (slot other : ℕ) (process its : ProcRec) (apart : other ≢ slot)
+    (fits : FitsProc process) (live : is_live process ≡ true) (its_fits : FitsProc its) (its_live : is_live its ≡ true)
+    (kept : AreKeptBeside (pages_map r slot process) words after) where
+  beside_frame : (page frame : ℕ) → frame_of r other its page ≡ Some frame → IsBesidePages (pages_map r slot process) frame
+  beside_frame page frame found own mapping e same =
+      let lies = (map_tells r slot process own mapping e).0 in
+      let both : frame_of r slot process own ≡ Some frame = lies ∙ ap Some same in
+      let one = one_page_each r slot other own page frame process its (page_small r slot process own frame fits live both) (page_small r other its page frame its_fits its_live found) both found in
+      apart (sym one.0)
+
+  byte_stays : (page offset : ℕ) (held : Option ℕ) → frame_of r other its page ≡ held → byte_on after offset held ≡ byte_on words offset held
+  byte_stays page offset None found = refl
+  byte_stays page offset (Some frame) found =
+      ap (λ (word : Option ℕ). byte_of (word_or_zero word) (offset % 4)) (kept.same frame (offset / 4) (beside_frame page frame found))
+
+  pub pages_stay : pages_of r after other its ≡ pages_of r words other its
+  unfolding pages_of
+  pages_stay = λ i. record { rights = region_of its; bytes = λ a. byte_stays (a / 4096) (a % 4096) (frame_of r other its (a / 4096)) refl i }

@@ -6,3 +6,4 @@ pub mod UnixBy
 pub mod Returning
 pub mod Causes
 pub mod Isolated
+pub mod Stepping
