@@ -7,3 +7,4 @@ pub mod Returning
 pub mod Causes
 pub mod Isolated
 pub mod Stepping
+pub mod UserTurns

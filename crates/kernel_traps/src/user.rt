@@ -29,7 +29,7 @@ pub(crate) fn return_to(plant: &mut Plant, slot: u32)
     plant.to_user(process.pid, &bank, root);
 }
 
-#[tactic(auto, using(crate::proofs::Causes::fault_status, crate::proofs::Isolated::sets_kept, crate::proofs::Stepping::unix_with))]
+#[tactic(auto, using(crate::proofs::Causes::fault_status, crate::proofs::Isolated::sets_kept, crate::proofs::UserTurns::turn_made))]
 fn probe() -> u32
     ensures { result ≡ 1 }
 {
