@@ -153,8 +153,49 @@ module _ (s : PlantState) (sound : IsSound s) (in_user : s.in_user ≡ true) (sl
         ∙ ap (λ (u : Unix). record (with_process u s.user_pid new) { steps = s.steps + 1; position = AtUser s.user_pid (s.slice + 1) }) (sym before))))
 
   -- the turn of the Unix where an instruction is made
-  pub turn_made : (regs : List ℕ) (pc : ℕ) (pages : Pages) → nat_lt s.slice s.shape.quantum ≡ true → step_of in_unix ≡ Next regs pc pages
+  turn_made : (regs : List ℕ) (pc : ℕ) (pages : Pages) → nat_lt s.slice s.shape.quantum ≡ true → step_of in_unix ≡ Next regs pc pages
       → turn_at no_keys s.shape.quantum (unix_at s) (AtUser s.user_pid s.slice)
       ≡ record (with_process (unix_at s) s.user_pid (record in_unix { bank = record { pc = pc; regs = regs }; pages = pages })) { steps = (unix_at s).steps + 1; position = AtUser s.user_pid (s.slice + 1) }
   unfolding turn_at user_turn stepped
   turn_made regs pc pages going step = ap (user_turn s.shape.quantum (unix_at s) s.user_pid s.slice) live ∙ rw (going, step) refl
+
+  -- an instruction is made
+  stepped_is : (memory : MemoryParts) (satp : ℕ) (regs : List ℕ) (pc : ℕ) (pages : Pages) → s.steps < s.shape.budget → nat_lt s.slice s.shape.quantum ≡ true → step_of in_unix ≡ Next regs pc pages
+      → IsSpaceOf words_seen root_seen with_seen (IsKept s its_map) root its_map (record { memory = memory; satp = satp }) pages
+      → IsStepped s (after_step s memory satp (record { pc = pc; regs = regs }))
+  unfolding unix_at unix_of
+  stepped_is memory satp regs pc pages left going step is =
+      let bank : Bank = record { pc = pc; regs = regs } in
+      let same : pages ≡ pages_of (records_held s) (words_of memory) slot its =
+      is.holds ∙ pages_same (records_held s) slot its (sound.held.records.mapped.mapped slot its runs.there) (words_of memory) in
+      record {
+        sound = sound_now memory satp bank is.fits left is.on;
+        turn = unix_now memory satp bank is.fits left pages same ∙ sym (turn_made regs pc pages going step);
+        steps = one_more memory satp bank is.fits left;
+        traps = refl;
+        same = record { shape = refl; points = refl; live = refl; history = refl };
+      }
+
+  by_step : (new : PlantState) (result : UserEnd) (made : Stepped Seen) (paged : Stepped Pages) → s.steps < s.shape.budget → nat_lt s.slice s.shape.quantum ≡ true → step_of in_unix ≡ paged
+      → Follows (IsSpaceOf words_seen root_seen with_seen (IsKept s its_map) root its_map) seen_space page_space made paged
+      → StepsAs s new result made → IsTurnOf s in_unix new result
+  by_step new result (Next regs pc seen) paged left going step follows m =
+      rw m.0 (subst (λ (t : PlantState). IsStepped s t) (sym m.1) (stepped_is seen.memory seen.satp regs pc follows.0 left going (step ∙ follows.1) follows.2))
+  by_step new result Call paged left going step follows m = rw m.0 (m.1, going, step ∙ follows)
+  by_step new result (Faulted fault) paged left going step follows m = rw m.0 (m.1, going, step ∙ follows, fault_status in_unix fault (step ∙ follows))
+
+  by_test : (new : PlantState) (result : UserEnd) (going : Bool) (made : Stepped Seen) (paged : Stepped Pages) → s.steps < s.shape.budget → nat_lt s.slice s.shape.quantum ≡ going → step_of in_unix ≡ paged
+      → Follows (IsSpaceOf words_seen root_seen with_seen (IsKept s its_map) root its_map) seen_space page_space made paged
+      → MatchBool going (StepsAs s new result made) ((result ≡ end.Slice) × (new ≡ s)) → IsTurnOf s in_unix new result
+  by_test new result true made paged left going step follows m = by_step new result made paged left going step follows m
+  by_test new result false made paged left going step follows m = rw m.0 (m.1, going)
+
+  in_slot : (new : PlantState) (result : UserEnd) → s.steps < s.shape.budget → s.bank.pc < 2 ^ 32 → TakesUserTurn s new result → IsUserTurn s new result
+  in_slot new result left small taken =
+      (in_unix, is_in_user, by_test new result (nat_lt s.slice s.shape.quantum) (user_step seen_space s.bank.regs s.bank.pc (seen_by s)) (step_of in_unix) left refl refl (steps_alike small) taken)
+
+-- a turn in user mode on the plant is one of the Unix
+pub takes_turn : (s new : PlantState) (result : UserEnd) → IsSound s → s.in_user ≡ true → s.steps < s.shape.budget → s.bank.pc < 2 ^ 32 → TakesUserTurn s new result → IsUserTurn s new result
+takes_turn s new result sound in_user left small taken =
+    let found = sound.in_user in_user in
+    in_slot s sound in_user found.0 found.1 found.2 new result left small taken

@@ -29,9 +29,13 @@ pub(crate) fn return_to(plant: &mut Plant, slot: u32)
     plant.to_user(process.pid, &bank, root);
 }
 
-#[tactic(auto, using(crate::proofs::Causes::fault_status, crate::proofs::Isolated::sets_kept, crate::proofs::UserTurns::turn_made))]
-fn probe() -> u32
-    ensures { result ≡ 1 }
+// One turn of the process in user mode: an instruction, or what ends in a trap.
+#[tactic(auto, using(crate::proofs::UserTurns::takes_turn))]
+pub(crate) fn user_step(plant: &mut Plant) -> UserEnd
+    requires sound { IsSound plant.old }
+    requires in_user { plant.old.in_user ≡ true }
+    requires budget { plant.old.steps < plant.old.shape.budget }
+    ensures { IsUserTurn plant.old plant.new result }
 {
-    1
+    plant.user_step()
 }
