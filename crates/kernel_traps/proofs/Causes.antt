@@ -1,5 +1,5 @@
 -- The status word of a process that faults.
-use Rattle.std.proofs.Common.{◌≡◌, ◌⊎◌, ℕ, ◌+◌, ◌≤◌, Bool, true, false, if◌then◌else◌, List, Option, Some, None, Result, Ok, Err, inl, inr, subst, arith}
+use Rattle.std.proofs.Common.{◌≡◌, ℕ, ◌+◌, ◌≤◌, Bool, true, false, if◌then◌else◌, List, Option, Some, None, Result, Ok, Err, inl, inr, subst, arith}
 use Rattle.ow_base.specs.Pages.{Pages, fetched_from, loaded_from, page_space, rights_at, stored_in}
 use Rattle.ow_base.specs.UserStep.{Act, Sets, Jumps, Branches, Loads, Stores, Nothing, Calls, Breaks, Illegal, Stepped, Next, Call, Faulted, act_of, acted, after_fetch, after_load, after_store, gone_to, is_aligned, size_of, user_step}
 use Rattle.ow_base.specs.declared.machine.Fault.{Fault}

@@ -1,15 +1,13 @@
 -- What a program leaves of memory that stores in its pages alone: the records, the gate of the area, and the pages of
 -- all other processes.
-use Rattle.std.proofs.Common.{◌≡◌, ◌≢◌, ◌==◌, ◌&&◌, ◌⊎◌, if◌then◌else◌, ℕ, ◌+◌, ◌-◌, ◌/◌, ◌%◌, ◌^◌, ◌<◌, ◌≤◌, Bool, true, false, List, Option, Some, None, inl, inr, refl, sym, ap, subst, ◌∙◌, arith}
+use Rattle.std.proofs.Common.{◌≡◌, ◌≢◌, ◌==◌, ◌&&◌, if◌then◌else◌, ℕ, ◌+◌, ◌-◌, ◌/◌, ◌%◌, ◌^◌, ◌<◌, ◌≤◌, true, List, Option, Some, None, inl, inr, refl, sym, ap, ◌∙◌, arith}
 use Rattle.std.proofs.lemmas.Bool.{cases_Bool, cases_lt}
 use Rattle.std.proofs.lemmas.Bool.Decides.{nat_tests}
 use Rattle.ow_base.specs.Sv32.{WordMap, byte_of, word_or_zero}
-use Rattle.ow_base.specs.declared.machine.Rights.{Rights}
 use Rattle.phys_memory.specs.Memory.{IsSized, words_of, with_word}
 use Rattle.phys_memory.proofs.Words.{words_of-set, IsSized-set}
 use Rattle.sv32_tables.specs.Spaces.{Mapping, IsWritable}
 use Rattle.sv32_tables.proofs.Spaces.{SetsWords, elsewhere}
-use Rattle.record_layouts.specs.declared.intent.Gate.{Gate}
 use Rattle.record_layouts.specs.declared.intent.Gate.TheVariants.{Closed}
 use Rattle.record_layouts.specs.declared.memory_map.MemoryMap.{MemoryMap}
 use Rattle.record_layouts.specs.declared.proc.ProcRec.{ProcRec}

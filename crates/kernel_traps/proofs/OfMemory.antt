@@ -1,11 +1,11 @@
 -- The records of a kernel that runs are of the words of its memory.
-use Rattle.std.proofs.Common.{◌≡◌, ℕ, ◌+◌, ◌*◌, ◌/◌, ◌%◌, ◌^◌, ◌<◌, ◌≤◌, true, false, ◌&&◌, nat_lt, if◌then◌else◌, Option, Some, None, is_some, refl, sym, ap, ◌∙◌, arith}
+use Rattle.std.proofs.Common.{◌≡◌, ℕ, ◌+◌, ◌*◌, ◌/◌, ◌%◌, ◌^◌, ◌<◌, ◌≤◌, true, false, ◌&&◌, nat_lt, Option, Some, None, is_some, refl, sym, ap, ◌∙◌, arith}
 use Rattle.std.proofs.lemmas.Bool.Decides.{nat_tests}
 use Rattle.ow_base.specs.declared.machine.AreaId.{AreaId}
 use Rattle.ow_base.specs.declared.machine.AreaId.TheVariants.{A, B}
 use Rattle.phys_memory.specs.Memory.{words_of}
 use Rattle.phys_memory.proofs.Words.{frame_count-sized, words_of-some}
-use Rattle.record_layouts.specs.Overlay.{Area, area_at, may_change, or_zero, overlay}
+use Rattle.record_layouts.specs.Overlay.{area_at, may_change, or_zero}
 use Rattle.record_layouts.specs.Pages.{table_frame}
 use Rattle.record_layouts.specs.Reading.{records_in, records_of}
 use Rattle.record_layouts.specs.declared.intent.Gate.TheVariants.{Closed}

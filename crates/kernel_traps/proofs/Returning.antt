@@ -7,7 +7,6 @@ use Rattle.record_layouts.specs.declared.proc.ProcRec.{ProcRec}
 use Rattle.record_layouts.specs.Decode.{Context, InKernel, InUser, process_at, process_of, processes_of, unix_of, with_bank}
 use Rattle.record_layouts.specs.Held.{Records}
 use Rattle.record_layouts.specs.Pages.{table_frame}
-use Rattle.record_layouts.specs.Reading.{records_in, records_of}
 use Rattle.record_layouts.specs.Sound.{AreSound, IsIn}
 use Rattle.record_layouts.specs.Unix.{AtUser, Process, Unix}
 use Rattle.process_table.specs.Patches.{bank_of}
@@ -16,7 +15,7 @@ use Rattle.phys_memory.specs.Memory.{words_of}
 use Rattle.ow_plant.specs.State.{PlantState, returned_to}
 use Rattle.ow_plant.proofs.Armed.{IsArmed-returned_to}
 use Rattle.intent_store.specs.Live.{records_held}
-use Rattle.kernel_traps.specs.Plants.{IsRunning, IsSound, context_of, tapes_of, unix_at}
+use Rattle.kernel_traps.specs.Plants.{IsSound, context_of, tapes_of, unix_at}
 use Rattle.kernel_traps.specs.User.{IsOutside, IsReturned, at_process}
 use Rattle.kernel_traps.proofs.OfMemory.{of_memory}
 use Rattle.kernel_traps.proofs.UnixBy.{unix_by, unix_is}
