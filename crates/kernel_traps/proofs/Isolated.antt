@@ -52,7 +52,8 @@ set_behind words after base frame place value from set number =
 module _ (s : PlantState) (map : ℕ → Option Mapping) (few : s.shape.user_frames ≤ 384)
     (behind : (page : ℕ) (mapping : Mapping) → map page ≡ Some mapping → (map_of s).pool_base ≤ mapping.frame) where
   -- a store in a page of the program
-  module _ (m : Seen) (frame place value : ℕ) (kept : IsKept s map m) (writable : IsWritable map frame place) (old : ℕ) (is : words_of m.memory frame place ≡ Some old) where
+  module _ (m : Seen) (frame place value : ℕ) (kept : IsKept s map m) (writable : IsWritable map frame place) (old : ℕ)
+      (is : words_of m.memory frame place ≡ Some old) where
     there : (f w : ℕ) → words_of (with_word m.memory frame place value) f w ≡ (if (f == frame) && (w == place) then Some value else words_of m.memory f w)
     there f w = words_of-set m.memory frame place value f w (frame_there m.memory frame place (rw is refl)) writable.within
 
@@ -96,7 +97,8 @@ gate_zero area e = elim (cases_Bool (area gate_word == 0)) [
 ]
 
 -- the gate stays shut
-pub gate_stays : (s new : PlantState) (map : ℕ → Option Mapping) → ((page : ℕ) (mapping : Mapping) → map page ≡ Some mapping → (map_of s).pool_base ≤ mapping.frame)
+pub gate_stays : (s new : PlantState) (map : ℕ → Option Mapping)
+    → ((page : ℕ) (mapping : Mapping) → map page ≡ Some mapping → (map_of s).pool_base ≤ mapping.frame)
     → gate_held s ≡ Closed → AreKeptBeside map (words_of s.memory) (words_of new.memory) → map_of new ≡ map_of s → gate_held new ≡ Closed
 gate_stays s new map behind shut kept maps =
     let base = (map_of s).area_base in
@@ -126,7 +128,9 @@ module _ (r : Records) (words after : WordMap) (slot other : ℕ) (process its :
   beside_frame page frame found own mapping e same =
       let lies = (map_tells r slot process own mapping e).0 in
       let both : frame_of r slot process own ≡ Some frame = lies ∙ ap Some same in
-      let one = one_page_each r slot other own page frame process its (page_small r slot process own frame fits live both) (page_small r other its page frame its_fits its_live found) both found in
+      let small = page_small r slot process own frame fits live both in
+      let too = page_small r other its page frame its_fits its_live found in
+      let one = one_page_each r slot other own page frame process its small too both found in
       apart (sym one.0)
 
   byte_stays : (page offset : ℕ) (held : Option ℕ) → frame_of r other its page ≡ held → byte_on after offset held ≡ byte_on words offset held

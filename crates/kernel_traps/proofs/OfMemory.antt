@@ -54,7 +54,8 @@ module _ (s : PlantState) (armed : IsArmed s) where
       let frame : number / 1024 ≡ 16 + 3 * slot + table = omega arith in
       let place : number % 1024 ≡ word = omega arith in
       let there = (has_area s armed).there (16 + 3 * slot + table) word (omega arith) small in
-      let held : area_at (words_of s.memory) (map_of s).area_base number ≡ or_zero (words_of s.memory ((map_of s).area_base + (16 + 3 * slot + table)) word) = rw (frame, place) refl in
+      let held : area_at (words_of s.memory) (map_of s).area_base number
+      ≡ or_zero (words_of s.memory ((map_of s).area_base + (16 + 3 * slot + table)) word) = rw (frame, place) refl in
       some_word _ there ∙ ap Some (sym (table_word slot table word low few small ∙ held))
 
   no_owner : (i : ℕ) → s.shape.user_frames ≤ i → (records_held s).owners i ≡ 0

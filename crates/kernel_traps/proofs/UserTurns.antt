@@ -10,7 +10,6 @@ use Rattle.phys_memory.specs.Memory.{MemoryParts, words_of}
 use Rattle.sv32_tables.specs.Spaces.{IsMapped, Mapping, satp_of}
 use Rattle.sv32_tables.proofs.Spaces.{IsSpaceOf, steps_follow}
 use Rattle.record_layouts.specs.declared.proc.ProcRec.{ProcRec}
-use Rattle.record_layouts.specs.Calls.{with_process}
 use Rattle.record_layouts.specs.Choice.{no_keys}
 use Rattle.record_layouts.specs.Decode.{Context, InUser, process_of, processes_of, unix_of}
 use Rattle.record_layouts.specs.Held.{Records}
