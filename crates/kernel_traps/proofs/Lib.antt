@@ -1,3 +1,6 @@
+-- The lemmas of the crate: bytes that are put and how a service is done; a trap that begins, and records and terminals
+-- that are sound once it is carried out; the words of a kernel that runs, and a process in user mode, whose stores are
+-- seen by itself alone.
 pub mod Puts
 pub mod Done
 pub mod Entering
@@ -5,3 +8,10 @@ pub mod OfProcesses
 pub mod ShownSound
 pub mod Terminals
 pub mod Carried
+pub mod OfMemory
+pub mod UnixBy
+pub mod Returning
+pub mod Causes
+pub mod Isolated
+pub mod Stepping
+pub mod UserTurns

@@ -5,5 +5,6 @@
 mod ending;
 mod services;
 mod turns;
+mod user;
 
 pub use turns::Turn;
