@@ -15,3 +15,4 @@ pub mod Causes
 pub mod Isolated
 pub mod Stepping
 pub mod UserTurns
+pub mod Refusals

@@ -5,7 +5,7 @@ ghost use Rattle.phys_memory.specs.Memory.{words_of};
 ghost use Rattle.record_layouts.specs.declared.intent.Gate.TheVariants.{Closed};
 ghost use Rattle.record_layouts.specs.Held.{IsCommittable};
 ghost use Rattle.ow_plant.specs.State.{tty_of};
-ghost use Rattle.intent_store.specs.Live.{IsStanding, gate_held, held_of, records_held};
+ghost use Rattle.intent_store.specs.Live.{IsStanding, gate_held, held_of, may_refuse, records_held};
 ghost use Rattle.syscalls.specs.Planned.{pages_in};
 ghost use Rattle.syscalls.specs.Serving.{CanCall, IsDoable, IsWritable, plan_of};
 ghost use Rattle.tty_screen.specs.Shown.{TerminalDecodes};
@@ -24,6 +24,7 @@ use tty_screen::byte_patch;
 const PIECE: usize = 16;
 
 // Writes a byte on a terminal: its record counts the byte before it goes out.
+#[tactic(auto, using(crate::proofs::Refusals::refusals_same, crate::proofs::Refusals::put_refused))]
 fn put_byte(live: &mut Live<'_>, tty: u32, byte: u8) -> Result<(), Panicked>
     requires able { live.old.plant.now.refused ≡ false }
     requires stands { IsStanding live.old.plant.now }
@@ -35,6 +36,7 @@ fn put_byte(live: &mut Live<'_>, tty: u32, byte: u8) -> Result<(), Panicked>
         ⊎ IsPut (held_of live.old.plant.now) tty (byte ∷ []) [] (held_of live.new.plant.now)) }
     ensures stays { OnOk result (live.new.plant.now.refused ≡ false) }
     ensures cause { OnErr result (live.new.plant.now.refused ≡ true) }
+    ensures allowed { OnErr result (may_refuse live.old.plant.now ≡ true) }
     ensures still_stands { IsStanding live.new.plant.now }
     ensures same_reference { live.new.plant.ghost_name ≡ live.old.plant.ghost_name }
 {
@@ -44,6 +46,7 @@ fn put_byte(live: &mut Live<'_>, tty: u32, byte: u8) -> Result<(), Panicked>
 }
 
 // Writes bytes on a terminal, one after the other.
+#[tactic(auto, using(crate::proofs::Refusals::refusals_put))]
 fn put_bytes(live: &mut Live<'_>, tty: u32, bytes: &[u8]) -> Result<(), Panicked>
     requires able { live.old.plant.now.refused ≡ false }
     requires stands { IsStanding live.old.plant.now }
@@ -54,6 +57,7 @@ fn put_bytes(live: &mut Live<'_>, tty: u32, bytes: &[u8]) -> Result<(), Panicked
     ensures err { OnErr result (IsPutPartly (held_of live.old.plant.now) tty bytes.now (held_of live.new.plant.now)) }
     ensures stays { OnOk result (live.new.plant.now.refused ≡ false) }
     ensures cause { OnErr result (live.new.plant.now.refused ≡ true) }
+    ensures allowed { OnErr result (may_refuse live.old.plant.now ≡ true) }
     ensures still_stands { IsStanding live.new.plant.now }
     ensures same_reference { live.new.plant.ghost_name ≡ live.old.plant.ghost_name }
 {
@@ -84,6 +88,7 @@ fn write_piece(
     ensures err { OnErr result (MayBeLeftOfWrite (held_of live.old.plant.now) tty (bytes_of live.old.plant.now slot from len) patch.now.items.items (held_of live.new.plant.now)) }
     ensures stays { OnOk result (live.new.plant.now.refused ≡ false) }
     ensures cause { OnErr result (live.new.plant.now.refused ≡ true) }
+    ensures allowed { OnErr result (may_refuse live.old.plant.now ≡ true) }
     ensures still_stands { IsStanding live.new.plant.now }
     ensures same_reference { live.new.plant.ghost_name ≡ live.old.plant.ghost_name }
 {
@@ -112,6 +117,7 @@ pub(crate) fn carry_out(live: &mut Live<'_>, slot: u32, service: &Service) -> Re
     ensures err { OnErr result (MayBeLeft live.old.plant.now slot (plan_of service.now) (held_of live.new.plant.now)) }
     ensures stays { OnOk result (live.new.plant.now.refused ≡ false) }
     ensures cause { OnErr result (live.new.plant.now.refused ≡ true) }
+    ensures allowed { OnErr result (may_refuse live.old.plant.now ≡ true) }
     ensures still_stands { IsStanding live.new.plant.now }
     ensures same_reference { live.new.plant.ghost_name ≡ live.old.plant.ghost_name }
 {
