@@ -51,10 +51,11 @@ any_of_name programs i p found =
     list_any_at (has_name p.name) programs i p (slice_get_within programs i p found)
     (ap (λ q. bytes_eq q.name p.name) (get_or_from_slice_get programs i p p found) ∙ bytes_eq_self p.name)
 
--- what is said among the starts
+-- what is said where a start line may come
 abbrev pub before_start : Key → Shape → (done : List Program) → Option Program → List Started → Facts
 before_start last shape done current starts = record { last = Some last; shape = shape; finished = done; opened = current; starts = starts }
 
+-- what is said behind a start line
 abbrev pub at_start : Shape → List Program → List Started → Facts
 at_start shape programs starts = before_start Start shape programs None starts
 
