@@ -13,6 +13,7 @@ pub mod WorldWords
 pub mod WorldRefused
 pub mod WorldSteps
 pub mod WorldPrograms
+pub mod WorldStarts
 pub mod WorldFields
 pub mod WorldPassed
 pub mod WorldSpelled

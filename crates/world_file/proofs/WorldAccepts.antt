@@ -1,7 +1,7 @@
 -- Each world of the forms that can be read is read from its text.
-use Rattle.std.proofs.Common.{◌≡◌, ℕ, zero, suc, ◌+◌, ◌<◌, ◌≤◌, true, List, [], ◌∷◌, ◌++◌, length, map, get_or, find, Option, Some, None, Ok, codes, decimal, bytes_eq, option_to_list, arith, ap, ◌∙◌, sym, refl, subst, ◌==◌, if◌then◌else◌, append_assoc, append-nil}
+use Rattle.std.proofs.Common.{◌≡◌, ℕ, zero, suc, ◌+◌, ◌<◌, ◌≤◌, true, List, [], ◌∷◌, ◌++◌, length, map, get_or, find, Option, Some, None, Ok, codes, decimal, bytes_eq, option_to_list, arith, ap, ◌∙◌, sym, refl, subst, ◌==◌, if◌then◌else◌, append_assoc, append-nil, length-append}
 use Rattle.std.specs.List.{AllByRecursion, slice_get, flat_map, list_any, position_or_len}
-use Rattle.std.proofs.lemmas.List.Sums.{position_or_len_is, sum_by-cons}
+use Rattle.std.proofs.lemmas.List.Sums.{position_or_len_is}
 use Rattle.std.proofs.lemmas.List.Folds.{find_at, list_any_at}
 use Rattle.std.proofs.lemmas.List.Elements.{recursion_from_All}
 use Rattle.std.proofs.lemmas.Option.{slice_get_within, get_or_from_slice_get}
@@ -19,16 +19,19 @@ use Rattle.world_file.specs.declared.key.Key.{Key}
 use Rattle.world_file.specs.declared.key.Key.TheVariants.{Budget, Start}
 use Rattle.world_file.specs.WorldLines.{Line, words, pieces, key, key_of}
 use Rattle.world_file.specs.WorldFacts.{Facts, has_name}
+use Rattle.world_file.specs.WorldReasons.{start_place, counted_place}
 use Rattle.world_file.specs.WorldRefusals.{IsBuilt}
 use Rattle.world_file.specs.WorldReading.{with_line, world_of, nothing_said, read_lines, read_text}
 use Rattle.world_file.proofs.WorldPieces.{free-append}
 use Rattle.world_file.proofs.WorldNumbers.{number_of_accepts, bytes_eq_self}
-use Rattle.world_file.proofs.WorldFields.{free_decimal, free_name, name_accepts, le_is_true, lt_is_false}
+use Rattle.world_file.proofs.WorldFields.{free_decimal, free_name, name_accepts, le_is_true, lt_is_true, lt_is_false}
 use Rattle.world_file.proofs.WorldSpelled.{three_words, some_number, some_text}
 use Rattle.world_file.proofs.WorldPassed.{IsPassed, Reads, reads_line, reads_end}
 use Rattle.world_file.proofs.WorldHead.{at_head, head_read}
 use Rattle.world_file.proofs.WorldBlocksRead.{at_program, EndsBlock}
 use Rattle.world_file.proofs.WorldBlocks.{NamesApart, not_same, block_read, blocks_read}
+use Rattle.world_file.proofs.WorldStarts.{pages_of, pages_push, pages_front}
+use Rattle.world_file.proofs.ProgramsUnique.{AreNamed, all_named}
 
 -- the program at a place is the first of its name
 pub place_of_name : (programs : List Program) (i : ℕ) (p : Program) → NamesApart programs → slice_get programs i ≡ Some p → position_or_len (has_name p.name) programs ≡ i
@@ -48,79 +51,143 @@ any_of_name programs i p found =
     list_any_at (has_name p.name) programs i p (slice_get_within programs i p found)
     (ap (λ q. bytes_eq q.name p.name) (get_or_from_slice_get programs i p p found) ∙ bytes_eq_self p.name)
 
--- each program has a name
-named_at : (text : List ℕ) (programs : List Program) (i : ℕ) (p : Program) → AreTexts IsProgram text programs → slice_get programs i ≡ Some p → IsName p.name
-unfolding AreTexts
-named_at text [] i p are found = cc
-named_at text (q ∷ programs) zero p are found = let e : q ≡ p = cc in subst (λ v. IsName v.name) e are.3.named
-named_at text (q ∷ programs) (suc i) p are found = named_at are.1 programs i p are.4 found
+-- what is said where a start line may come
+abbrev pub before_start : Key → Shape → (done : List Program) → Option Program → List Started → Facts
+before_start last shape done current starts = record { last = Some last; shape = shape; finished = done; opened = current; starts = starts }
 
--- what is said behind the start line
-abbrev pub at_start : Shape → List Program → Started → Facts
-at_start shape programs start = record { last = Some Start; shape = shape; finished = programs; opened = None; starts = start ∷ [] }
+-- what is said behind a start line
+abbrev pub at_start : Shape → List Program → List Started → Facts
+at_start shape programs starts = before_start Start shape programs None starts
 
-start_passed : (k : Key) (shape : Shape) (done : List Program) (o : Option Program) (l : Line) (p : Program) (start : Started) → EndsBlock k
-    → words l ≡ codes "start" ∷ p.name ∷ decimal start.tty ∷ [] → NamesApart (done ++ option_to_list o) → slice_get (done ++ option_to_list o) start.program ≡ Some p
-    → IsName p.name → start.tty < 2 → start_pages (done ++ option_to_list o) (start ∷ []) ≤ shape.user_frames → IsPassed (at_program k shape done o) l
+-- a start may stand behind a line of this key
+abbrev pub Starts : Key → Type 0
+Starts k = (count : ℕ) → start_place count (Some k) ≡ counted_place 16 count
+
+-- a start of a program that is named
+pub record IsNamedStart (programs : List Program) (program : Program) (start : Started) : Type 0 where
+  pub apart : NamesApart programs
+  pub found : slice_get programs start.program ≡ Some program
+  pub named : IsName program.name
+  pub tty : start.tty < 2
+
+start_passed : (k : Key) (shape : Shape) (done : List Program) (o : Option Program) (before : List Started) (l : Line) (p : Program) (start : Started) → Starts k
+    → words l ≡ codes "start" ∷ p.name ∷ decimal start.tty ∷ [] → IsNamedStart (done ++ option_to_list o) p start → length before < 16
+    → start_pages (done ++ option_to_list o) (before ++ start ∷ []) ≤ shape.user_frames → IsPassed (before_start k shape done o before) l
 unfolding key_of
-start_passed k shape done o l p start ends w apart found named small fits =
+start_passed k shape done o before l p start starts w is few fits =
     let programs = done ++ option_to_list o in
     let key : key l ≡ Start = rw w refl in
-    let place = ends.starts 0 in
-    let some = some_number start.tty (omega arith) in
-    let some_name = some_text p.name named.shortest in
-    let value = number_of_accepts start.tty (omega arith) in
+    let place = starts (length before) in
+    let below = lt_is_true (length before) 16 few in
+    let some = some_number start.tty (omega (arith, is.tty)) in
+    let some_name = some_text p.name is.named.shortest in
+    let value = number_of_accepts start.tty (omega (arith, is.tty)) in
     let least = le_is_true 0 start.tty (omega arith) in
-    let most = le_is_true start.tty 1 (omega arith) in
-    let is = name_accepts p.name named in
-    let any = any_of_name programs start.program p found in
-    let by_name = found_by_name programs start.program p apart found in
-    let one = sum_by-cons (λ (s : Started). pages_of_found (slice_get programs s.program)) start [] in
-    let same : pages_of_found (slice_get programs start.program) ≡ pages_of_found (Some p) = ap pages_of_found found in
-    let room : start_pages programs [] + pages_of_found (Some p) ≤ shape.user_frames = omega (arith, fits, one, same) in
-    let enough = lt_is_false shape.user_frames (start_pages programs [] + pages_of_found (Some p)) room in
+    let most = le_is_true start.tty 1 (omega (arith, is.tty)) in
+    let name = name_accepts p.name is.named in
+    let any = any_of_name programs start.program p is.found in
+    let by_name = found_by_name programs start.program p is.apart is.found in
+    let same : pages_of programs start ≡ pages_of_found (Some p) = ap pages_of_found is.found in
+    let room : start_pages programs before + pages_of_found (Some p) ≤ shape.user_frames = omega (arith, fits, pages_push programs before start, same) in
+    let enough = lt_is_false shape.user_frames (start_pages programs before + pages_of_found (Some p)) room in
     record {
       first = refl;
       built = rw key refl;
-      word = rw (key, place) refl;
-      count = rw (key, place) refl;
+      word = rw (key, place, below) refl;
+      count = rw (key, place, below) refl;
       fields = rw (key, w, some, some_name) refl;
       number = rw (key, w, value, least, most) refl;
-      name = rw (key, w, is) refl;
+      name = rw (key, w, name) refl;
       hex = rw key refl;
       once = rw key refl;
       program = rw (key, w, any) refl;
       frames = rw (key, w, by_name) enough;
     }
 
-start_said : (k : Key) (shape : Shape) (done : List Program) (o : Option Program) (l : Line) (p : Program) (start : Started) → words l ≡ codes "start" ∷ p.name ∷ decimal start.tty ∷ []
-    → NamesApart (done ++ option_to_list o) → slice_get (done ++ option_to_list o) start.program ≡ Some p → start.tty < 2
-    → with_line (at_program k shape done o) l ≡ at_start shape (done ++ option_to_list o) start
+start_said : (k : Key) (shape : Shape) (done : List Program) (o : Option Program) (before : List Started) (l : Line) (p : Program) (start : Started)
+    → words l ≡ codes "start" ∷ p.name ∷ decimal start.tty ∷ [] → IsNamedStart (done ++ option_to_list o) p start
+    → with_line (before_start k shape done o before) l ≡ at_start shape (done ++ option_to_list o) (before ++ start ∷ [])
 unfolding with_line key_of
-start_said k shape done o l p start w apart found small =
+start_said k shape done o before l p start w is =
     let key : key l ≡ Start = rw w refl in
-    let value = number_of_accepts start.tty (omega arith) in
-    let place = place_of_name (done ++ option_to_list o) start.program p apart found in
+    let value = number_of_accepts start.tty (omega (arith, is.tty)) in
+    let place = place_of_name (done ++ option_to_list o) start.program p is.apart is.found in
     rw (key, w, value, place) refl
 
-end_passed : (shape : Shape) (programs : List Program) (start : Started) → IsPassed (at_start shape programs start) (codes "end")
-unfolding words pieces key_of
-end_passed shape programs start = record { first = refl; built = refl; word = refl; count = refl; fields = refl; number = refl; name = refl; hex = refl; once = refl; program = refl; frames = refl }
-
--- the start line and the end
-ends_read : (k : Key) (shape : Shape) (done : List Program) (o : Option Program) (p : Program) (start : Started) → EndsBlock k → NamesApart (done ++ option_to_list o)
-    → slice_get (done ++ option_to_list o) start.program ≡ Some p → IsName p.name → start.tty < 2 → start_pages (done ++ option_to_list o) (start ∷ []) ≤ shape.user_frames
-    → Reads (at_program k shape done o) (start_line p start ++ line (codes "end")) (world_of (at_start shape (done ++ option_to_list o) start))
-ends_read k shape done o p start ends apart found named small fits =
+-- a start line
+start_read : (k : Key) (shape : Shape) (done : List Program) (o : Option Program) (programs : List Program) (before : List Started) (p : Program) (start : Started) (rest : List ℕ) (world : World)
+    → Starts k → done ++ option_to_list o ≡ programs → IsNamedStart programs p start → length before < 16 → start_pages programs (before ++ start ∷ []) ≤ shape.user_frames
+    → Reads (at_start shape programs (before ++ start ∷ [])) rest world → Reads (before_start k shape done o before) (start_line p start ++ rest) world
+start_read k shape done o programs before p start rest world starts whole is few fits more =
     let l = spaced (spaced (codes "start") p.name) (decimal start.tty) in
-    let programs = done ++ option_to_list o in
-    let clean = free_name 32 p.name (omega arith) named in
-    let w = three_words (codes "start") p.name (decimal start.tty) refl clean (free_decimal 32 start.tty (omega arith) (omega arith)) in
-    let free_l = free-append 10 (spaced (codes "start") p.name) (32 ∷ decimal start.tty) (free-append 10 (codes "start") (32 ∷ p.name) refl (free_name 10 p.name (omega arith) named)) (free_decimal 10 start.tty (omega arith) (omega arith)) in
-    reads_line (at_program k shape done o) l (line (codes "end")) (world_of (at_start shape programs start)) free_l
-    (start_passed k shape done o l p start ends w apart found named small fits) refl
-    (subst (λ f. Reads f (line (codes "end")) (world_of (at_start shape programs start))) (sym (start_said k shape done o l p start w apart found small))
-    (reads_end (at_start shape programs start) (end_passed shape programs start)))
+    let here = subst (λ ps. IsNamedStart ps p start) (sym whole) is in
+    let room = subst (λ ps. start_pages ps (before ++ start ∷ []) ≤ shape.user_frames) (sym whole) fits in
+    let small = is.tty in
+    let clean = free_name 32 p.name (omega arith) is.named in
+    let w = three_words (codes "start") p.name (decimal start.tty) refl clean (free_decimal 32 start.tty (omega arith) (omega (arith, small))) in
+    let free_l = free-append 10 (spaced (codes "start") p.name) (32 ∷ decimal start.tty) (free-append 10 (codes "start") (32 ∷ p.name) refl (free_name 10 p.name (omega arith) is.named)) (free_decimal 10 start.tty (omega arith) (omega (arith, small))) in
+    let said = start_said k shape done o before l p start w here ∙ ap (λ ps. at_start shape ps (before ++ start ∷ [])) whole in
+    reads_line (before_start k shape done o before) l rest world free_l (start_passed k shape done o before l p start starts w here few room) refl
+    (subst (λ f. Reads f rest world) (sym said) more)
+
+end_passed : (shape : Shape) (programs : List Program) (starts : List Started) → IsPassed (at_start shape programs starts) (codes "end")
+unfolding words pieces key_of
+end_passed shape programs starts = record { first = refl; built = refl; word = refl; count = refl; fields = refl; number = refl; name = refl; hex = refl; once = refl; program = refl; frames = refl }
+
+-- starts that may all stand
+pub record AreStarts (shape : Shape) (programs : List Program) (starts : List Started) : Type 0 where
+  pub apart : NamesApart programs
+  pub named : AreNamed programs
+  pub few : length starts ≤ 16
+  pub fits : start_pages programs starts ≤ shape.user_frames
+
+named_start : (shape : Shape) (programs : List Program) (starts : List Started) (text : List ℕ) (start : Started) → AreStarts shape programs starts → (is : IsStart programs text start) → IsNamedStart programs is.program start
+named_start shape programs starts text start are is =
+    record { apart = are.apart; found = is.found; named = are.named start.program is.program is.found; tty = is.tty }
+
+-- behind some starts, others and the end
+starts_more : (shape : Shape) (programs : List Program) (before : List Started) (text : List ℕ) (starts : List Started) → AreTexts (IsStart programs) text starts → AreStarts shape programs (before ++ starts)
+    → Reads (at_start shape programs before) (text ++ line (codes "end")) (world_of (at_start shape programs (before ++ starts)))
+unfolding AreTexts
+starts_more shape programs before text [] texts are =
+    let same : before ++ [] ≡ before = append-nil before in
+    subst (λ t. Reads (at_start shape programs before) (t ++ line (codes "end")) (world_of (at_start shape programs (before ++ [])))) (sym texts)
+    (subst (λ ss. Reads (at_start shape programs before) (line (codes "end")) (world_of (at_start shape programs ss))) (sym same)
+    (reads_end (at_start shape programs before) (end_passed shape programs before)))
+starts_more shape programs before text (start ∷ starts) texts are =
+    let front = texts.0 in
+    let others = texts.1 in
+    let is = texts.3 in
+    let here = start_line is.program start in
+    let said = world_of (at_start shape programs (before ++ start ∷ starts)) in
+    let joined : (before ++ start ∷ []) ++ starts ≡ before ++ start ∷ starts = append_assoc before (start ∷ []) starts in
+    let few : length before < 16 = omega (arith, are.few, length-append before (start ∷ starts)) in
+    let fits : start_pages programs (before ++ start ∷ []) ≤ shape.user_frames = omega (arith, are.fits, pages_front programs (before ++ start ∷ []) starts, ap (start_pages programs) joined) in
+    let more = starts_more shape programs (before ++ start ∷ []) others starts texts.4 (subst (AreStarts shape programs) (sym joined) are) in
+    let ends = subst (λ ss. Reads (at_start shape programs (before ++ start ∷ [])) (others ++ line (codes "end")) (world_of (at_start shape programs ss))) joined more in
+    let read = start_read Start shape programs None programs before is.program start (others ++ line (codes "end")) said (λ c. refl) (append-nil programs)
+    (named_start shape programs (before ++ start ∷ starts) front start are is) few fits ends in
+    let spelled : here ++ (others ++ line (codes "end")) ≡ text ++ line (codes "end") =
+    sym (ap (λ t. t ++ line (codes "end")) (texts.2 ∙ ap (λ t. t ++ others) is.spelled) ∙ append_assoc here others (line (codes "end"))) in
+    subst (λ t. Reads (at_start shape programs before) t said) spelled read
+
+-- behind the blocks, the starts and the end
+starts_read : (k : Key) (shape : Shape) (done : List Program) (o : Option Program) (programs : List Program) (text : List ℕ) (starts : List Started) → Starts k → done ++ option_to_list o ≡ programs
+    → 1 ≤ length starts → AreTexts (IsStart programs) text starts → AreStarts shape programs starts
+    → Reads (at_program k shape done o) (text ++ line (codes "end")) (world_of (at_start shape programs starts))
+unfolding AreTexts
+starts_read k shape done o programs text [] may whole some texts are = absurd (omega arith)
+starts_read k shape done o programs text (start ∷ starts) may whole some texts are =
+    let others = texts.1 in
+    let is = texts.3 in
+    let here = start_line is.program start in
+    let said = world_of (at_start shape programs (start ∷ starts)) in
+    let fits : start_pages programs (start ∷ []) ≤ shape.user_frames = omega (arith, are.fits, pages_front programs (start ∷ []) starts) in
+    let read = start_read k shape done o programs [] is.program start (others ++ line (codes "end")) said may whole
+    (named_start shape programs (start ∷ starts) texts.0 start are is) (omega arith) fits (starts_more shape programs (start ∷ []) others starts texts.4 are) in
+    let spelled : here ++ (others ++ line (codes "end")) ≡ text ++ line (codes "end") =
+    sym (ap (λ t. t ++ line (codes "end")) (texts.2 ∙ ap (λ t. t ++ others) is.spelled) ∙ append_assoc here others (line (codes "end"))) in
+    subst (λ t. Reads (at_program k shape done o) t said) spelled read
 
 front_empty : {A : Type 0} (a b : List A) → a ++ b ≡ [] → a ≡ []
 front_empty [] b h = refl
@@ -148,18 +215,6 @@ no_texts : {A : Type 0} (Is : List ℕ → A → Type 0) (text : List ℕ) (item
 unfolding AreTexts
 no_texts Is text items e are = subst (AreTexts Is text) e are
 
--- one item at a place
-one_item : {A : Type 0} (items : List A) → length items ≡ 1 → (item : A) × (items ≡ item ∷ [])
-one_item [] h = absurd (omega arith)
-one_item (item ∷ []) h = (item, refl)
-one_item (item ∷ other ∷ items) h = absurd (omega arith)
-
-one_text : (programs : List Program) (text : List ℕ) (starts : List Started) (start : Started) → starts ≡ start ∷ [] → AreTexts (IsStart programs) text starts → IsStart programs text start
-unfolding AreTexts
-one_text programs text starts start e are =
-    let one = subst (AreTexts (IsStart programs) text) e are in
-    subst (λ t. IsStart programs t start) (sym (one.2 ∙ ap (λ r. one.0 ++ r) one.4 ∙ append-nil one.0)) one.3
-
 abbrev with_lists : Shape → List FileText → List Program → List Started → List KeyByte → List KeyByte → List PanicLine → World
 with_lists shape files programs starts typed0 typed1 panics = record {
   load = record { shape = shape; files = files; programs = programs; starts = starts };
@@ -169,13 +224,12 @@ with_lists shape files programs starts typed0 typed1 panics = record {
 }
 
 -- a world is what is said up to its end
-same_world : (world : World) (start : Started) → world.load.starts ≡ start ∷ [] → IsBuilt world → world_of (at_start world.load.shape world.load.programs start) ≡ world
-same_world world start one built =
+same_world : (world : World) → IsBuilt world → world_of (at_start world.load.shape world.load.programs world.load.starts) ≡ world
+same_world world built =
     let shape = world.load.shape in
     let programs = world.load.programs in
     let starts = world.load.starts in
-    ap (λ ps. with_lists shape [] ps (start ∷ []) [] [] []) (append-nil programs)
-    ∙ ap (λ ss. with_lists shape [] programs ss [] [] []) (sym one)
+    ap (λ ps. with_lists shape [] ps starts [] [] []) (append-nil programs)
     ∙ ap (λ fs. with_lists shape fs programs starts [] [] []) (sym built.no_files)
     ∙ ap (λ ts. with_lists shape world.load.files programs starts ts [] []) (sym built.no_typed0)
     ∙ ap (λ ts. with_lists shape world.load.files programs starts world.typed0 ts []) (sym built.no_typed1)
@@ -200,30 +254,20 @@ unfolding read_text
 world_accepted text world is built =
     let shape = world.load.shape in
     let programs = world.load.programs in
-    let one = one_item world.load.starts built.one_start in
-    let start = one.0 in
-    let started = one_text programs is.starts_text world.load.starts start one.1 is.starts in
-    let p = started.program in
-    let named = named_at is.programs_text programs start.program p is.programs started.found in
-    let fits : start_pages programs (start ∷ []) ≤ shape.user_frames = subst (λ ss. start_pages programs ss ≤ shape.user_frames) one.1 is.frames in
-    let rest = start_line p start ++ line (codes "end") in
-    let said = world_of (at_start shape programs start) in
+    let starts = world.load.starts in
+    let are : AreStarts shape programs starts = record { apart = is.program_names; named = all_named is.programs_text programs is.programs; few = is.most_starts; fits = is.frames } in
+    let rest = is.starts_text ++ line (codes "end") in
+    let said = world_of (at_start shape programs starts) in
     let typed = nothing_typed is.typed (recursion_from_All IsTyped is.typed is.each_typed) (sym is.typed0_is ∙ built.no_typed0) (sym is.typed1_is ∙ built.no_typed1) in
     let no_files = no_texts IsFile is.files_text world.load.files built.no_files is.files in
     let no_panics = no_texts (IsPanic shape.user_frames) is.panics_text world.panics built.no_panics is.panics in
     let spelled : text ≡ head_lines shape ++ (is.programs_text ++ rest) =
     is.spelled
     ∙ ap (λ fs. head_lines shape ++ (fs ++ (is.programs_text ++ (is.starts_text ++ (flat_map type_line is.typed ++ (is.panics_text ++ line (codes "end"))))))) no_files
-    ∙ ap (λ ss. head_lines shape ++ (is.programs_text ++ (ss ++ (flat_map type_line is.typed ++ (is.panics_text ++ line (codes "end")))))) started.spelled
-    ∙ ap (λ ts. head_lines shape ++ (is.programs_text ++ (start_line p start ++ (flat_map type_line ts ++ (is.panics_text ++ line (codes "end")))))) typed
-    ∙ ap (λ ps. head_lines shape ++ (is.programs_text ++ (start_line p start ++ (ps ++ line (codes "end"))))) no_panics in
+    ∙ ap (λ ts. head_lines shape ++ (is.programs_text ++ (is.starts_text ++ (flat_map type_line ts ++ (is.panics_text ++ line (codes "end")))))) typed
+    ∙ ap (λ ps. head_lines shape ++ (is.programs_text ++ (is.starts_text ++ (ps ++ line (codes "end"))))) no_panics in
     let read = head_read shape (is.programs_text ++ rest) said is.shape
     (blocks_end shape is.programs_text programs rest said is.some_program is.most_programs is.program_names is.programs
-    (λ last before current ends whole.
-    let apart = subst NamesApart (sym whole) is.program_names in
-    let found = subst (λ ps. slice_get ps start.program ≡ Some p) (sym whole) started.found in
-    let room = subst (λ ps. start_pages ps (start ∷ []) ≤ shape.user_frames) (sym whole) fits in
-    subst (λ ps. Reads (at_program last shape before current) rest (world_of (at_start shape ps start))) whole
-    (ends_read last shape before current p start ends apart found named started.tty room))) in
+    (λ last before current ends whole. starts_read last shape before current programs is.starts_text starts ends.starts whole is.some_start is.starts are)) in
     let size = lt_is_false 1048576 (length text) is.longest in
-    rw size (ap (λ t. read_lines nothing_said 0 (pieces 10 t)) spelled ∙ read 0 ∙ ap Ok (same_world world start one.1 built))
+    rw size (ap (λ t. read_lines nothing_said 0 (pieces 10 t)) spelled ∙ read 0 ∙ ap Ok (same_world world built))

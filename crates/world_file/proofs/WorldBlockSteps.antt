@@ -28,7 +28,7 @@ use Rattle.world_file.proofs.WorldSaid.{AreBlocks, IsOpen, SoFar, may_stand, fie
 use Rattle.world_file.proofs.WorldSaid.SoFar.{ToProgram, ToCode, ToData}
 
 -- one more text behind those of other items
-texts_more : {A : Type 0} (Is : List ℕ → A → Type 0) (text : List ℕ) (items : List A) (more : List ℕ) (item : A) → AreTexts Is text items → Is more item → AreTexts Is (text ++ more) (items ++ item ∷ [])
+pub texts_more : {A : Type 0} (Is : List ℕ → A → Type 0) (text : List ℕ) (items : List A) (more : List ℕ) (item : A) → AreTexts Is text items → Is more item → AreTexts Is (text ++ more) (items ++ item ∷ [])
 unfolding AreTexts
 texts_more Is text [] more item are is = (more, [], ap (λ t. t ++ more) are ∙ sym (append-nil more), is, refl)
 texts_more Is text (first ∷ items) more item are is =
@@ -55,7 +55,7 @@ closed text last shape done program is some =
     }
 
 -- a program line
-counted_free : (most count : ℕ) → counted_place most count ≡ Free → count < most
+pub counted_free : (most count : ℕ) → counted_place most count ≡ Free → count < most
 counted_free most count h = lt_true count most (below (nat_lt count most) h)
   where
     below : (b : Bool) → (if b then Free else Taken) ≡ Free → b ≡ true

@@ -2,9 +2,8 @@
 use Rattle.std.proofs.Common.{◌≡◌, ℕ, ◌+◌, ◌<◌, ◌≤◌, ◌⊎◌, inl, inr, Bool, true, false, nat_lt, List, [], ◌∷◌, ◌++◌, length, Option, Some, None, Result, Ok, Err, codes, bytes_eq, arith, ap, ◌∙◌, sym, refl, subst, append_assoc, append-nil, if◌then◌else◌}
 use Rattle.std.specs.List.{AllPairs}
 use Rattle.std.proofs.lemmas.List.Elements.{All-from_recursion}
-use Rattle.std.proofs.lemmas.Option.{slice_get_within}
 use Rattle.ow_base.specs.Lines.{line}
-use Rattle.ow_base.specs.World.{AreTexts, IsWorld, IsTyped, AreKeys, head_lines, start_line}
+use Rattle.ow_base.specs.World.{AreTexts, IsWorld, IsTyped, AreKeys, head_lines}
 use Rattle.ow_base.specs.declared.machine.Shape.{Shape}
 use Rattle.ow_base.specs.declared.worlds.World.{World}
 use Rattle.ow_base.specs.declared.worlds.Program.{Program}
@@ -25,7 +24,7 @@ use Rattle.world_file.proofs.WorldPieces.{joined, joined-pieces, joined_line}
 use Rattle.world_file.proofs.WorldNumbers.{same_bytes}
 use Rattle.world_file.proofs.WorldFields.{lt_false}
 use Rattle.world_file.proofs.WorldPassed.{IsPassed, passed}
-use Rattle.world_file.proofs.WorldSaid.{IsStarted, SoFar, may_stand}
+use Rattle.world_file.proofs.WorldSaid.{AreStarted, SoFar, may_stand}
 use Rattle.world_file.proofs.WorldStarted.{step}
 use Rattle.world_file.proofs.WorldSaid.SoFar.{Nothing, First, ToFrames, ToSectors, ToQuantum, ToBudget, ToProgram, ToCode, ToData, ToStart}
 
@@ -45,10 +44,10 @@ behind_start f is = end_free f.last (may_stand f (codes "end") is)
 no_pairs : {A : Type 0} (R : A → A → Type 0) → AllPairs R []
 no_pairs R i j d low high = absurd (omega arith)
 
--- the world that is said, with its programs
-abbrev world_with : Shape → List Program → Started → World
-world_with shape programs start = record {
-  load = record { shape = shape; files = []; programs = programs; starts = start ∷ [] };
+-- the world that is said, with its programs and starts
+abbrev world_with : Shape → List Program → List Started → World
+world_with shape programs starts = record {
+  load = record { shape = shape; files = []; programs = programs; starts = starts };
   typed0 = [];
   typed1 = [];
   panics = [];
@@ -60,11 +59,11 @@ regroup h b s e = simp append_assoc
 no_keys : AreKeys []
 no_keys = record { in_order = no_pairs (λ (a b : KeyByte). a.trap ≤ b.trap); most = omega arith }
 
-started_world : (text : List ℕ) (shape : Shape) (programs : List Program) (start : Started) → IsStarted text shape programs start → length (text ++ line (codes "end")) ≤ 1048576
-    → IsWorld (text ++ line (codes "end")) (world_with shape programs start)
+started_world : (text : List ℕ) (shape : Shape) (programs : List Program) (starts : List Started) → 1 ≤ length programs → 1 ≤ length starts → AreStarted text shape programs starts
+    → length (text ++ line (codes "end")) ≤ 1048576 → IsWorld (text ++ line (codes "end")) (world_with shape programs starts)
 unfolding AreTexts
-started_world text shape programs start is short =
-    let starts_text = start_line is.program start in
+started_world text shape programs starts some more is short =
+    let starts_text = is.starts_text in
     let end = line (codes "end") in
     record {
       files_text = [];
@@ -80,12 +79,12 @@ started_world text shape programs start is short =
       file_names = no_pairs (λ (a b : FileText). a.name ≡ b.name → ⊥);
       sectors = omega arith;
       programs = is.blocks.each;
-      some_program = omega (arith, slice_get_within programs start.program is.program is.found);
+      some_program = some;
       most_programs = is.blocks.few;
       program_names = is.blocks.apart;
-      starts = (starts_text, [], sym (append-nil starts_text), record { program = is.program; found = is.found; spelled = refl; tty = is.tty }, refl);
-      some_start = omega arith;
-      most_starts = omega arith;
+      starts = is.each;
+      some_start = more;
+      most_starts = is.few;
       frames = is.fits;
       each_typed = All-from_recursion IsTyped [] tt;
       typed0_is = refl;
@@ -107,10 +106,10 @@ ended_found text f world (ToBudget shape blocks e) last is = let h : Some Budget
 ended_found text f world (ToProgram shape done program opened e) last is = let h : Some ProgramKey ≡ Some Start = sym (ap (λ f. f.last) e) ∙ last in cc
 ended_found text f world (ToCode shape done program opened e) last is = let h : Some Code ≡ Some Start = sym (ap (λ f. f.last) e) ∙ last in cc
 ended_found text f world (ToData shape done program opened e) last is = let h : Some Data ≡ Some Start = sym (ap (λ f. f.last) e) ∙ last in cc
-ended_found text f world (ToStart shape programs start started e) last is =
-    let same : world_with shape programs start ≡ world = ap (λ ps. world_with shape ps start) (sym (append-nil programs)) ∙ sym (ap world_of e) ∙ is in
+ended_found text f world (ToStart shape programs starts some more started e) last is =
+    let same : world_with shape programs starts ≡ world = ap (λ ps. world_with shape ps starts) (sym (append-nil programs)) ∙ sym (ap world_of e) ∙ is in
     subst (IsWhole (text ++ line (codes "end"))) same
-    (λ short. started_world text shape programs start started short, record { no_files = refl; one_start = refl; no_typed0 = refl; no_typed1 = refl; no_panics = refl })
+    (λ short. started_world text shape programs starts some more started short, record { no_files = refl; no_typed0 = refl; no_typed1 = refl; no_panics = refl })
 
 -- what reading did at a line
 abbrev IsLast : Facts → Line → (ahead : List Line) → World → Type 0

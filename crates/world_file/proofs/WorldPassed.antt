@@ -12,7 +12,7 @@ use Rattle.world_file.proofs.WorldPieces.{free, has_piece, pieces_line}
 -- no reason holds for a line
 pub record IsPassed (f : Facts) (line : Line) : Type 0 where
   pub first : is_no_first_line f line ≡ false
-  pub built : is_unbuilt (key line) f ≡ false
+  pub built : is_unbuilt (key line) ≡ false
   pub word : is_barred (place_of (key line) f) ≡ false
   pub count : comes_too_often f line ≡ false
   pub fields : lacks_fields line ≡ false
@@ -36,7 +36,7 @@ pub passed : (f : Facts) (line : Line) → first_reason f line ≡ None → IsPa
 unfolding first_reason
 passed f line h =
     let a = went_on (is_no_first_line f line) FirstLine _ h in
-    let b = went_on (is_unbuilt (key line) f) NotBuilt _ a.1 in
+    let b = went_on (is_unbuilt (key line)) NotBuilt _ a.1 in
     let c = went_on (is_barred (place_of (key line) f)) Word _ b.1 in
     let d = went_on (comes_too_often f line) TooMany _ c.1 in
     let e = went_on (lacks_fields line) Fields _ d.1 in

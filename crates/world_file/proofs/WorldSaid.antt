@@ -1,8 +1,8 @@
 -- What the lines that were read say, and the five lines at the head.
 use Rattle.std.proofs.Common.{◌≡◌, ℕ, ◌^◌, ◌<◌, ◌≤◌, true, false, not, ◌==◌, List, [], ◌∷◌, ◌++◌, length, Some, codes, decimal, ap, ◌∙◌, sym, refl, subst}
-use Rattle.std.specs.List.{slice_get, list_any}
+use Rattle.std.specs.List.{list_any}
 use Rattle.ow_base.specs.Lines.{line, spaced, number_line}
-use Rattle.ow_base.specs.World.{AreTexts, IsShape, IsName, AreWordLines, IsProgram, head_lines, start_line, start_pages}
+use Rattle.ow_base.specs.World.{AreTexts, IsShape, IsName, AreWordLines, IsProgram, IsStart, head_lines, start_pages}
 use Rattle.ow_base.specs.declared.machine.Shape.{Shape}
 use Rattle.ow_base.specs.declared.worlds.Program.{Program}
 use Rattle.ow_base.specs.declared.worlds.Start.{Start as Started}
@@ -53,15 +53,15 @@ pub record IsOpen (text : List ℕ) (last : Key) (shape : Shape) (done : List Pr
   pub values : AreWordLines (codes "data") values_text program.values
   pub has_come : HasCome last program values_text
 
--- all up to the start line
-pub record IsStarted (text : List ℕ) (shape : Shape) (programs : List Program) (start : Started) : Type 0 where
+-- all up to some start line
+pub record AreStarted (text : List ℕ) (shape : Shape) (programs : List Program) (starts : List Started) : Type 0 where
   pub before : List ℕ
   pub blocks : AreBlocks before shape programs
-  pub program : Program
-  pub found : slice_get programs start.program ≡ Some program
-  pub tty : start.tty < 2
-  pub fits : start_pages programs (start ∷ []) ≤ shape.user_frames
-  pub spelled : text ≡ before ++ start_line program start
+  pub starts_text : List ℕ
+  pub each : AreTexts (IsStart programs) starts_text starts
+  pub few : length starts ≤ 16
+  pub fits : start_pages programs starts ≤ shape.user_frames
+  pub spelled : text ≡ before ++ starts_text
 
 -- what the lines of a text say where each was passed
 pub data SoFar (text : List ℕ) (f : Facts) : Type 0 where
@@ -77,7 +77,7 @@ pub data SoFar (text : List ℕ) (f : Facts) : Type 0 where
   ToProgram : (shape : Shape) (done : List Program) (program : Program) → IsOpen text ProgramKey shape done program → f ≡ at_program ProgramKey shape done (Some program) → SoFar text f
   ToCode : (shape : Shape) (done : List Program) (program : Program) → IsOpen text Code shape done program → f ≡ at_program Code shape done (Some program) → SoFar text f
   ToData : (shape : Shape) (done : List Program) (program : Program) → IsOpen text Data shape done program → f ≡ at_program Data shape done (Some program) → SoFar text f
-  ToStart : (shape : Shape) (programs : List Program) (start : Started) → IsStarted text shape programs start → f ≡ at_start shape programs start → SoFar text f
+  ToStart : (shape : Shape) (programs : List Program) (starts : List Started) → 1 ≤ length programs → 1 ≤ length starts → AreStarted text shape programs starts → f ≡ at_start shape programs starts → SoFar text f
 
 -- a line that is passed stands where it may
 free_place : (place : Place) → is_barred place ≡ false → is_taken place ≡ false → place ≡ Free

@@ -116,11 +116,10 @@ is_taken other = false
 abbrev pub is_no_first_line : Facts → Line → Bool
 is_no_first_line f line = not (is_there f.last) && not (bytes_eq line (codes "world 1"))
 
--- the line's form cannot be read yet, as a second start
-abbrev pub is_unbuilt : Key → Facts → Bool
-is_unbuilt Unbuilt f = true
-is_unbuilt Start f = nat_le 1 (length f.starts)
-is_unbuilt other f = false
+-- the line's form cannot be read yet
+abbrev pub is_unbuilt : Key → Bool
+is_unbuilt Unbuilt = true
+is_unbuilt other = false
 
 -- more than 16 words on one line, or more than 65,536 in a block
 abbrev pub exceeds : (before here : ℕ) → Bool
@@ -199,7 +198,7 @@ exceeds_frames other f line = false
 -- cannot be read yet, and `end` and `too large` are no reasons of a line
 abbrev pub holds : Facts → Line → Why → Bool
 holds f line FirstLine = is_no_first_line f line
-holds f line NotBuilt = is_unbuilt (key line) f
+holds f line NotBuilt = is_unbuilt (key line)
 holds f line Word = is_barred (place_of (key line) f)
 holds f line TooMany = comes_too_often f line
 holds f line Fields = lacks_fields line

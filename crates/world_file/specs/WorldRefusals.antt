@@ -9,10 +9,9 @@ use Rattle.world_file.specs.declared.reader.WorldFault.TheVariants.{Bad, Memory}
 use Rattle.world_file.specs.WorldLines.{Line, pieces}
 use Rattle.world_file.specs.WorldReasons.{reason_at}
 
--- worlds of the forms that can be read: programs, and one of them is started once
+-- worlds of the forms that can be read: programs, and up to 16 starts of them
 pub record IsBuilt (world : World) : Type 0 where
   pub no_files : world.load.files ≡ []
-  pub one_start : length world.load.starts ≡ 1
   pub no_typed0 : world.typed0 ≡ []
   pub no_typed1 : world.typed1 ≡ []
   pub no_panics : world.panics ≡ []

@@ -1,4 +1,4 @@
-ghost use Rattle.std.specs.Prelude.{◌≡◌, false, Option};
+ghost use Rattle.std.specs.Prelude.{◌≡◌, Option};
 ghost use Rattle.world_file.specs.WorldLines.{fields};
 ghost use Rattle.world_file.specs.WorldReasons.{first_reason, counted_place, place_of, head_place, is_no_first_line, is_unbuilt, exceeds, has_too_many_words, has_fields, lacks_fields, has_no_number, has_no_name, has_no_word, comes_twice, names_no_program, exceeds_frames};
 
@@ -83,14 +83,10 @@ fn is_no_first_line(so_far: &SoFar, line: &Line) -> bool
 }
 
 // The line's form cannot be read yet.
-fn is_unbuilt(key: Key, so_far: &SoFar) -> bool
-    ensures { result ≡ is_unbuilt key so_far.now }
+fn is_unbuilt(key: Key) -> bool
+    ensures { result ≡ is_unbuilt key }
 {
-    match key {
-        Key::Unbuilt => true,
-        Key::Start => so_far.start_count() > 0,
-        _ => false,
-    }
+    matches!(key, Key::Unbuilt)
 }
 
 // More words than fit on a line, or into a block that has some.
@@ -179,13 +175,12 @@ fn names_no_program(key: Key, so_far: &SoFar, line: &Line) -> bool
     }
 }
 
-// The pages of the one start are more than the frames.
+// The pages of all starts, with this one, are more than the frames.
 fn exceeds_frames(key: Key, so_far: &SoFar, line: &Line) -> bool
-    requires first { is_unbuilt key so_far.now ≡ false }
     ensures { result ≡ exceeds_frames key so_far.now line.now }
 {
     match key {
-        Key::Start => so_far.named_pages(line.word(1)) > so_far.frames() as usize,
+        Key::Start => so_far.lacks_frames(line.word(1)),
         _ => false,
     }
 }
@@ -199,7 +194,7 @@ pub fn first_reason(so_far: &SoFar, line: &Line) -> Option<Why>
     let place = place_of(key, so_far);
     if is_no_first_line(so_far, line) {
         Some(Why::FirstLine)
-    } else if is_unbuilt(key, so_far) {
+    } else if is_unbuilt(key) {
         Some(Why::NotBuilt)
     } else if matches!(place, Place::Barred) {
         Some(Why::Word)

@@ -67,6 +67,23 @@ fn reads_the_values(rt: HostRuntime) -> Result<(), Fail> {
 }
 
 #[test]
+fn reads_the_starts(rt: HostRuntime) -> Result<(), Fail> {
+    let alloc = rt.alloc();
+    let text =
+        b"world 1\nframes 32\nsectors 4\nquantum 100\nbudget 1000\nprogram a\ncode 00000073\nprogram b\ncode 00000073\nstart b 1\nstart a 0\nstart b 0\nend\n";
+    let world = read_world(alloc, text)
+        .ok()
+        .ok_or("the text is of a world")?;
+    let expected = [
+        Start { program: 1, tty: 1 },
+        Start { program: 0, tty: 0 },
+        Start { program: 1, tty: 0 },
+    ];
+    assert_eq!(rt; world.load.starts.items(), expected.as_slice());
+    Ok(())
+}
+
+#[test]
 fn says_each_reason_in_words(rt: HostRuntime) -> Result<(), Fail> {
     let cases = [
         (Why::FirstLine, "first line"),
@@ -116,6 +133,74 @@ fn counts_programs(rt: HostRuntime) -> Result<(), Fail> {
         text.push_str(end)?;
         assert_eq!(rt; refusal(alloc, text.as_str())?, expected, "{count}: {end}");
     }
+    Ok(())
+}
+
+#[test]
+fn counts_starts(rt: HostRuntime) -> Result<(), Fail> {
+    let alloc = rt.alloc();
+    let cases = [
+        (1, "end\n", None),
+        (16, "end\n", None),
+        (15, "start a 0\nend\n", None),
+        (16, "start a 0\nend\n", Some((24, Why::TooMany))),
+        (16, "start\n", Some((24, Why::TooMany))),
+        (16, "start c 9\n", Some((24, Why::TooMany))),
+        (16, "panic 1 0\n", Some((24, Why::NotBuilt))),
+        (15, "start c 9\n", Some((23, Why::Number))),
+    ];
+    for (count, end, expected) in cases {
+        let mut text = String::from_str(alloc, HEAD)?;
+        text.push_str("program a\ncode 00000073\n")?;
+        for _ in 0..count {
+            text.push_str("start a 0\n")?;
+        }
+        text.push_str(end)?;
+        assert_eq!(rt; refusal(alloc, text.as_str())?, expected, "{count}: {end}");
+    }
+    Ok(())
+}
+
+// A start of `a` needs 5 pages, and one of `b` 6.
+#[test]
+fn counts_pages_of_starts(rt: HostRuntime) -> Result<(), Fail> {
+    let alloc = rt.alloc();
+    let cases = [
+        (16, "aaa", None),
+        (16, "aaaa", Some((14, Why::Frames))),
+        (19, "aaaa", Some((14, Why::Frames))),
+        (20, "aaaa", None),
+        (16, "aab", None),
+        (16, "bbb", Some((13, Why::Frames))),
+        (16, "bba", Some((13, Why::Frames))),
+        (27, "abbba", Some((15, Why::Frames))),
+        (28, "abbba", None),
+    ];
+    for (frames, names, expected) in cases {
+        let mut text = format!(in alloc;
+            "world 1\nframes {frames}\nsectors 4\nquantum 100\nbudget 1000\nprogram a\ncode 00000073\nprogram b\ncode 00000073\ndata 00000000\n"
+        )?;
+        for name in names.chars() {
+            let line = format!(in alloc; "start {name} 0\n")?;
+            text.push_str(line.as_str())?;
+        }
+        text.push_str("end\n")?;
+        assert_eq!(rt;
+            refusal(alloc, text.as_str())?,
+            expected,
+            "{frames}: {names}"
+        );
+    }
+    Ok(())
+}
+
+// The fourth start of a program of five pages is one too many for 16 frames.
+#[test]
+fn refuses_the_start_that_exceeds(rt: HostRuntime) -> Result<(), Fail> {
+    let alloc = rt.alloc();
+    let text =
+        "world 1\nframes 16\nsectors 4\nquantum 100\nbudget 1000\nprogram a\ncode 00700513 00100893 00000073\nstart a 0\nstart a 0\nstart a 0\nstart a 0\nend\n";
+    assert_eq!(rt; refusal(alloc, text)?, Some((11, Why::Frames)));
     Ok(())
 }
 

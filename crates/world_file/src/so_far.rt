@@ -1,7 +1,6 @@
-ghost use Rattle.std.specs.Prelude.{◌≡◌, ℕ, ◌+◌, ◌<◌, ◌≤◌, ◌++◌, List, [], ◌∷◌, length, IfOk, Option, Some, None, option_map, option_to_list, bytes_eq, find};
+ghost use Rattle.std.specs.Prelude.{◌≡◌, ℕ, ◌+◌, ◌<◌, ◌≤◌, nat_lt, ◌++◌, List, [], ◌∷◌, length, slice_get, IfOk, Option, Some, None, option_map, option_to_list, bytes_eq, find};
 ghost use Rattle.std.specs.List.{list_any, position_or_len};
-ghost use Rattle.ow_base.specs.World.{started_page_count};
-ghost use Rattle.ow_base.specs.World.{page_count};
+ghost use Rattle.ow_base.specs.World.{page_count, started_page_count, pages_of_found, start_pages};
 ghost use Rattle.ow_base.specs.declared.worlds.Program.{Program};
 ghost use Rattle.world_file.specs.declared.key.Key.TheVariants.{Program as ProgramKey};
 ghost use Rattle.world_file.specs.WorldLines.{key, word_at, number_at, words_of};
@@ -288,13 +287,6 @@ impl SoFar {
         self.last
     }
 
-    /// The frames of the machine.
-    pub fn frames(&self) -> u32
-        ensures { result ≡ self.now.shape.user_frames }
-    {
-        self.shape.user_frames
-    }
-
     pub fn program_count(&self) -> usize
         ensures { result ≡ length (programs_of self.now) }
     {
@@ -335,8 +327,45 @@ impl SoFar {
         is_named(&self.finished, name) || self.has_opened(name)
     }
 
-    /// The pages that a start of the program with this name needs, 0 where none has it.
-    pub fn named_pages(&self, name: &[u8]) -> usize
+    /// Whether all starts so far, with one of the program with this name, need more pages than there are frames.
+    pub fn lacks_frames(&self, name: &[u8]) -> bool
+        ensures { result ≡ nat_lt self.now.shape.user_frames (start_pages (programs_of self.now) self.now.starts + named_pages name.now (programs_of self.now)) }
+    {
+        let mut free = self.shape.user_frames as usize;
+        for start in &self.starts {
+            let pages = self.pages_at(start.program);
+            if pages > free {
+                return true;
+            }
+            free -= pages;
+        }
+        self.named_pages(name) > free
+    }
+
+    // The pages that a start of the program at this place needs, 0 where none is there.
+    fn pages_at(&self, place: u32) -> usize
+        ensures { result ≡ pages_of_found (slice_get (programs_of self.now) place) }
+    {
+        let place = place as usize;
+        match self.finished.get(place) {
+            Some(program) => started_page_count(program.code.items(), program.values.items()),
+            None if place == self.finished.len() => self.current_pages(),
+            None => 0,
+        }
+    }
+
+    // The pages that a start of the block that is not finished needs, 0 where there is none.
+    fn current_pages(&self) -> usize
+        ensures { result ≡ pages_of_found self.now.opened }
+    {
+        match &self.opened {
+            Some(block) => block.page_count(),
+            None => 0,
+        }
+    }
+
+    // The pages that a start of the program with this name needs, 0 where none has it.
+    fn named_pages(&self, name: &[u8]) -> usize
         ensures { result ≡ named_pages name.now (programs_of self.now) }
     {
         match pages_named(&self.finished, name) {

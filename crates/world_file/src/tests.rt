@@ -76,9 +76,12 @@ const BLOCK_LINES: &str = "\
 |start a 0\r|start a 4294967296\n\
 9 name|start nnnnnnnnnnnnnnnnnnnnnnnnn 0|start \u{7f} 0|start \u{ff} 1\n\
 9 no such program|start b 0|start aa 1|start A 0\n\
-10 not built|start a 0|start|start b 9|type 0 1 x|type|panic 1 0|panic|damage|again 1|file a\n\
+10 not built|type 0 1 x|type|panic 1 0|panic|damage|again 1|file a\n\
 10 word|End||program b|code 00000073|data 00000073|frames 32|endx| end|end\r\n\
-10 fields|end |end x|end end";
+10 fields|end |end x|end end|start|start a|start a 0 0|start  0\n\
+10 number|start a 2|start b 9|start a 00\n\
+10 name|start nnnnnnnnnnnnnnnnnnnnnnnnn 0\n\
+10 no such program|start b 0|start A 1";
 
 // A row is the place of a line, and lines that are read in place of the world's.
 const READ_LINES: &str = "\
@@ -110,7 +113,13 @@ const MOVED_LINES: &str = "\
 1 2 3 4 5 5 6 7 8 9 10=6 too many
 1 2 3 4 5 6 6 7 8 9 10=7 word
 1 2 3 4 5 6 7 7 8 8 9 10=read
-1 2 3 4 5 6 7 8 9 9 10=10 not built
+1 2 3 4 5 6 7 8 9 9 10=read
+1 2 3 4 5 6 7 8 9 9 9 9 9 10=read
+1 2 3 4 5 6 7 8 9 9 9 9 9 9 10=14 frames
+1 2 3 4 5 6 7 8 9 6 7 9 10=10 word
+1 2 3 4 5 6 7 8 9 7 9 10=10 word
+1 2 3 4 5 6 7 8 9 8 9 10=10 word
+1 2 3 4 5 6 7 8 9 10 9=11 end
 1 2 3 4 5 6 7 8 9 10 10=11 end
 1 2 1 3 4 5 6 7 8 9 10=3 word
 2 3 4 5 6 7 8 9 10=1 first line
@@ -127,6 +136,9 @@ const MOVED_LINES: &str = "\
 // A row is what stands behind the world's first nine lines, with `|` for a line feed, and what is answered.
 const ENDS: &str = "\
 end|=read
+start a 1|end|=read
+start a 1|start a 0|end|=read
+start a 1|=11 end
 =10 end
 end=10 end
 end x=10 end
@@ -148,6 +160,9 @@ program a|code 00000073|program b|start a 0|end|=9 word
 program a|code 00000073|data 00000000|code 00000073|=9 word
 program a|code 00000073|program b|code 00000073|program a|=10 twice
 program a|code 00000073|program b|code 00000073|program b|=10 twice
+program a|code 00000073|program b|code 00000073|start b 0|start a 1|start b 1|end|=read
+program a|code 00000073|program b|code 00000073|start b 0|start c 0|=11 no such program
+program a|code 00000073|program b|code 00000073|start b 0|program c|=11 word
 program a|code 00000073|program b|code 00000073|start c 0|=10 no such program
 program a|code 00000073|program b|code 00000073|start c 2|=10 number
 program a|code 00000073|program b|code 00000073|end|=10 word
