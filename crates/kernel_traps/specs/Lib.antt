@@ -7,3 +7,4 @@ pub mod Carrying
 pub mod Ending
 pub mod Turning
 pub mod User
+pub mod Boot

@@ -1,5 +1,5 @@
 -- What a turn makes of a plant.
-use Rattle.std.specs.Prelude.{◌≡◌, ℕ, ◌+◌, ◌-◌, false}
+use Rattle.std.specs.Prelude.{◌≡◌, ℕ, ◌+◌, ◌-◌, true, false}
 use Rattle.record_layouts.specs.Choice.{is_any_live}
 use Rattle.record_layouts.specs.Turn.{turn}
 use Rattle.ow_plant.specs.State.{PlantState}
@@ -14,8 +14,13 @@ pub record IsSameMachine (old new : PlantState) : Type 0 where
   pub live : new.live ≡ old.live
   pub history : new.history ≡ old.history
 
+-- a process is live
+abbrev pub IsSomeLive : PlantState → Type 0
+IsSomeLive s = is_any_live (unix_at s).processes 1 ((unix_at s).next_pid - 1) ≡ true
+
 -- a turn is made: the plant is sound again and stands for the state after the turn
 pub record IsTurned (old new : PlantState) : Type 0 where
+  pub live : IsSomeLive old
   pub sound : IsSound new
   pub turn : unix_at new ≡ turn old.shape (unix_at old)
   pub steps : new.steps ≡ old.steps + 1
