@@ -1,0 +1,2 @@
+-- How a run ends, and that it goes on.
+pub mod Running
