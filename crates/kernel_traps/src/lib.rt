@@ -2,6 +2,7 @@
 //! byte before it goes out, and the trap ends with the last of its records.
 #![tactic(auto)]
 
+mod boot;
 mod ending;
 mod services;
 mod turns;

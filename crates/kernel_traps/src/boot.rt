@@ -1,0 +1,3 @@
+//! How a machine that is ready becomes a kernel that runs.
+
+mod stores;
