@@ -5,4 +5,6 @@ pub mod Putting
 pub mod Carrying
 pub mod Ending
 pub mod Turning
+pub mod Boot
 pub mod BootStores
+pub mod BootRecords
