@@ -3,3 +3,4 @@ pub mod Done
 pub mod Entering
 pub mod BootStores
 pub mod BootRecords
+pub mod BootPages

@@ -8,3 +8,4 @@ pub mod Turning
 pub mod Boot
 pub mod BootStores
 pub mod BootRecords
+pub mod BootPages
