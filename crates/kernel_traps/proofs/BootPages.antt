@@ -1,8 +1,15 @@
 -- What boot makes of tables, of owners and of the frames of pages.
-use Rattle.std.proofs.Common.{◌≡◌, ℕ, zero, suc, ◌+◌, ◌-◌, ◌*◌, ◌/◌, ◌%◌, ◌<◌, ◌≤◌, Bool, true, false, nat_lt, ◌==◌, ◌&&◌, if◌then◌else◌, List, length, slice_index, Option, Some, None, refl, sym, ap, ◌∙◌, arith}
+use Rattle.std.proofs.Common.{◌≡◌, ℕ, zero, suc, ◌+◌, ◌-◌, ◌*◌, ◌/◌, ◌%◌, ◌<◌, ◌≤◌, Bool, true, false, nat_lt, ◌==◌, ◌&&◌, if◌then◌else◌, List, [], length, slice_index, slice_get, get_or, Option, Some, None, option_and_then, add-one, refl, sym, ap, ◌∙◌, arith}
 use Rattle.std.proofs.lemmas.Bool.Decides.{nat_tests}
+use Rattle.std.proofs.lemmas.List.Elements.{All-get_or}
+use Rattle.std.proofs.lemmas.List.Sums.{sum_by-take-le, sum_by_more}
+use Rattle.std.proofs.lemmas.Option.{slice_get-get_or}
 use Rattle.ow_base.specs.Entries.{leaf_word}
+use Rattle.ow_base.specs.World.{pages_of_found, started_page_count}
 use Rattle.ow_base.specs.declared.machine.Rights.{Rights}
+use Rattle.ow_base.specs.declared.worlds.Load.{Load}
+use Rattle.ow_base.specs.declared.worlds.Program.{Program}
+use Rattle.ow_base.specs.declared.worlds.Start.{Start as Started}
 use Rattle.ow_plant.specs.State.{PlantState}
 use Rattle.phys_memory.specs.Memory.{words_of}
 use Rattle.record_layouts.specs.declared.memory_map.MemoryMap.{MemoryMap}
@@ -10,7 +17,8 @@ use Rattle.record_layouts.specs.Held.{Held, Records, is_of_area, stored, with_ar
 use Rattle.record_layouts.specs.Pages.{claim_of}
 use Rattle.record_layouts.specs.Reading.{records_in, records_of}
 use Rattle.intent_store.specs.Live.{held_of, map_of, records_held, rest_of}
-use Rattle.kernel_traps.specs.BootPages.{with_entry, with_frame_words, with_leaves, with_owner}
+use Rattle.kernel_traps.specs.Boot.{IsBootable, IsStartable, program_in}
+use Rattle.kernel_traps.specs.BootPages.{pages_before, with_entry, with_frame_words, with_leaves, with_owner, with_start, with_starts}
 use Rattle.kernel_traps.specs.BootStores.{IsBooting}
 use Rattle.kernel_traps.proofs.BootStores.{booting_base}
 
@@ -82,3 +90,74 @@ module _ (r : Records) (slot table page frame : ℕ) (rights : Rights) where
     unfolding with_leaves more_records
     leaves_more entry owner is_entry is_owner =
         rw (is_entry, is_owner) (λ i. record r { owners = λ k. one_leaf_owner k i; table_words = λ s t w. one_leaf_word s t w i })
+
+module _ {Rest : Type 0} (h : Held Rest) (frame : ℕ) (words : List ℕ) where
+  -- no word is in its frame yet
+  pub words_none : with_frame_words h frame 0 words ≡ h
+  unfolding with_frame_words
+  words_none =
+      let none : (f w : ℕ) → (with_frame_words h frame 0 words).contents f w ≡ h.contents f w = λ f w. grind (arith, nat_tests) in
+      λ i. record h { contents = λ f w. none f w i }
+
+  -- nothing else changes
+  pub words_rest : (n : ℕ) → (with_frame_words h frame n words).rest ≡ h.rest
+  unfolding with_frame_words
+  words_rest n = refl
+
+  -- one word more
+  one_word : (n f w : ℕ)
+      → (if f == 129 + frame + n / 1024 && nat_lt w 1024 && w == n % 1024 then Some (slice_index words n) else (with_frame_words h frame n words).contents f w)
+      ≡ (with_frame_words h frame (n + 1) words).contents f w
+  unfolding with_frame_words
+  one_word n f w = grind (arith, nat_tests)
+
+  pub words_more : (n : ℕ) → h.records.map.area_base ≡ 1
+      → stored (with_frame_words h frame n words) (129 + frame + n / 1024) (n % 1024) (slice_index words n) ≡ with_frame_words h frame (n + 1) words
+  unfolding with_frame_words with_words
+  words_more n base =
+      let outside : is_of_area h.records.map.area_base (129 + frame + n / 1024) ≡ false = grind (arith, nat_tests, base) in
+      rw outside (λ i. record h { contents = λ f w. one_word n f w i })
+
+-- the program of a start is there
+program_found : (programs : List Program) (starts : List Started) (slot : ℕ) (start : Started) → slice_get starts slot ≡ Some start
+    → option_and_then (λ (s : Started). slice_get programs s.program) (slice_get starts slot) ≡ slice_get programs start.program
+program_found programs starts slot start e = rw e refl
+
+pub start_there : (load : Load) (slot : ℕ) → IsBootable load → slot < length load.starts
+    → (program : Program) × (program_in load slot ≡ Some program)
+unfolding program_in
+start_there load slot is low =
+    let none : Started = record { program = 0; tty = 0 } in
+    let no_program : Program = record { name = []; code = []; values = [] } in
+    let start = get_or load.starts slot none in
+    let found = All-get_or (IsStartable load.programs) load.starts slot none low is.starts in
+    (get_or load.programs start.program no_program,
+    program_found load.programs load.starts slot start (slice_get-get_or load.starts slot none low)
+    ∙ slice_get-get_or load.programs start.program no_program found.program)
+
+-- the pages of one start more
+pub pages_more : (load : Load) (slot : ℕ) (program : Program) → slot < length load.starts → program_in load slot ≡ Some program
+    → pages_before load (slot + 1) ≡ pages_before load slot + started_page_count program
+unfolding program_in
+pages_more load slot program low is =
+    let none : Started = record { program = 0; tty = 0 } in
+    let count = λ (start : Started). pages_of_found (slice_get load.programs start.program) in
+    let start = get_or load.starts slot none in
+    let found : slice_get load.programs start.program ≡ Some program =
+    sym (program_found load.programs load.starts slot start (slice_get-get_or load.starts slot none low)) ∙ is in
+    sum_by_more count load.starts slot none low ∙ ap (λ (o : Option Program). pages_before load slot + pages_of_found o) found
+
+-- and all have frames
+pub pages_fit : (load : Load) (slot : ℕ) → IsBootable load → pages_before load slot ≤ load.shape.user_frames
+pages_fit load slot is =
+    omega (arith, sum_by-take-le (λ (start : Started). pages_of_found (slice_get load.programs start.program)) load.starts slot, is.frames)
+
+-- one start more
+pub starts_none : {Rest : Type 0} (h : Held Rest) (load : Load) → with_starts h load 0 ≡ h
+unfolding with_starts
+starts_none h load = refl
+
+pub starts_more : {Rest : Type 0} (h : Held Rest) (load : Load) (slot : ℕ)
+    → with_start (with_starts h load slot) slot (pages_before load slot) (program_in load slot) ≡ with_starts h load (slot + 1)
+unfolding with_starts
+starts_more h load slot = rw add-one refl

@@ -8,7 +8,7 @@ use Rattle.ow_base.specs.declared.worlds.Load.{Load}
 use Rattle.ow_base.specs.declared.worlds.Program.{Program}
 use Rattle.record_layouts.specs.Unix.{is_within}
 use Rattle.record_layouts.specs.Held.{Held, Records}
-use Rattle.record_layouts.specs.Pages.{claim_of, table_frame}
+use Rattle.record_layouts.specs.Pages.{claim_of}
 use Rattle.kernel_traps.specs.Boot.{program_in}
 
 -- the first user frame of a kernel in half A: the frame of the area, of the cache and the boot frame lie before it
@@ -35,7 +35,7 @@ with_leaves r slot table page count frame rights = record r {
       else r.table_words s t w;
 }
 
--- the pages of a program of so many pages of code and data, and the root over their tables
+-- the pages of a program of so many pages of code and data, and the root over their tables, which follow it
 abbrev pub with_pages : Records → (slot frame code_pages data_pages : ℕ) → Records
 with_pages r slot frame code_pages data_pages =
     with_leaves (with_leaves (with_leaves r slot 1 16 code_pages frame Code)
@@ -44,8 +44,8 @@ with_pages r slot frame code_pages data_pages =
 
 abbrev pub with_tables : Records → (slot frame code_pages data_pages : ℕ) → Records
 with_tables r slot frame code_pages data_pages =
-    with_entry (with_entry (with_pages r slot frame code_pages data_pages) slot 0 0 (pointer_word (1 + table_frame slot 1)))
-    slot 0 511 (pointer_word (1 + table_frame slot 2))
+    with_entry (with_entry (with_pages r slot frame code_pages data_pages) slot 0 0 (pointer_word (17 + 3 * slot + 1)))
+    slot 0 511 (pointer_word (17 + 3 * slot + 2))
 
 module _ {Rest : Type 0} (h : Held Rest) where
   -- so many words lie in user frames from one on
