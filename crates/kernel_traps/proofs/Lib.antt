@@ -4,3 +4,4 @@ pub mod Entering
 pub mod BootStores
 pub mod BootRecords
 pub mod BootPages
+pub mod BootReady
