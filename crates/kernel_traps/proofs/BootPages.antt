@@ -1,6 +1,7 @@
 -- What boot makes of tables, of owners and of the frames of pages.
-use Rattle.std.proofs.Common.{◌≡◌, ℕ, zero, suc, ◌+◌, ◌-◌, ◌*◌, ◌/◌, ◌%◌, ◌<◌, ◌≤◌, Bool, true, false, nat_lt, ◌==◌, ◌&&◌, if◌then◌else◌, List, [], length, slice_index, slice_get, get_or, Option, Some, None, option_and_then, add-one, refl, sym, ap, ◌∙◌, arith}
+use Rattle.std.proofs.Common.{◌≡◌, ℕ, zero, suc, ◌+◌, ◌-◌, ◌*◌, ◌/◌, ◌%◌, ◌<◌, ◌≤◌, Bool, true, false, nat_lt, ◌==◌, ◌&&◌, if◌then◌else◌, List, [], length, take, slice_index, slice_get, get_or, Option, Some, None, option_and_then, add-one, refl, sym, ap, subst, ◌∙◌, arith}
 use Rattle.std.proofs.lemmas.Bool.Decides.{nat_tests}
+use Rattle.std.proofs.lemmas.List.{take-take}
 use Rattle.std.proofs.lemmas.List.Elements.{All-get_or}
 use Rattle.std.proofs.lemmas.List.Sums.{sum_by-take-le, sum_by_more}
 use Rattle.std.proofs.lemmas.Option.{slice_get-get_or}
@@ -17,7 +18,7 @@ use Rattle.record_layouts.specs.Held.{Held, Records, is_of_area, stored, with_ar
 use Rattle.record_layouts.specs.Pages.{claim_of}
 use Rattle.record_layouts.specs.Reading.{records_in, records_of}
 use Rattle.intent_store.specs.Live.{held_of, map_of, records_held, rest_of}
-use Rattle.kernel_traps.specs.Boot.{IsBootable, IsStartable, program_in}
+use Rattle.kernel_traps.specs.Boot.{IsBootable, IsLoadable, IsStartable, program_in}
 use Rattle.kernel_traps.specs.BootPages.{pages_before, with_entry, with_frame_words, with_leaves, with_owner, with_start, with_starts}
 use Rattle.kernel_traps.specs.BootStores.{IsBooting}
 use Rattle.kernel_traps.proofs.BootStores.{booting_base}
@@ -124,7 +125,7 @@ program_found : (programs : List Program) (starts : List Started) (slot : ℕ) (
 program_found programs starts slot start e = rw e refl
 
 pub start_there : (load : Load) (slot : ℕ) → IsBootable load → slot < length load.starts
-    → (program : Program) × (program_in load slot ≡ Some program)
+    → (program : Program) × (program_in load slot ≡ Some program) × IsLoadable program
 unfolding program_in
 start_there load slot is low =
     let none : Started = record { program = 0; tty = 0 } in
@@ -133,7 +134,15 @@ start_there load slot is low =
     let found = All-get_or (IsStartable load.programs) load.starts slot none low is.starts in
     (get_or load.programs start.program no_program,
     program_found load.programs load.starts slot start (slice_get-get_or load.starts slot none low)
-    ∙ slice_get-get_or load.programs start.program no_program found.program)
+    ∙ slice_get-get_or load.programs start.program no_program found.program,
+    All-get_or IsLoadable load.programs start.program no_program found.program is.programs)
+
+pub start_loadable : (load : Load) (slot : ℕ) (program : Program) → IsBootable load → slot < length load.starts → program_in load slot ≡ Some program
+    → IsLoadable program
+start_loadable load slot program is low e =
+    let there = start_there load slot is low in
+    let same : there.0 ≡ program = cc (there.1, e) in
+    subst IsLoadable same there.2
 
 -- the pages of one start more
 pub pages_more : (load : Load) (slot : ℕ) (program : Program) → slot < length load.starts → program_in load slot ≡ Some program
@@ -161,3 +170,9 @@ pub starts_more : {Rest : Type 0} (h : Held Rest) (load : Load) (slot : ℕ)
     → with_start (with_starts h load slot) slot (pages_before load slot) (program_in load slot) ≡ with_starts h load (slot + 1)
 unfolding with_starts
 starts_more h load slot = rw add-one refl
+
+-- the pages before a start are among those before a later one
+pub pages_rise : (load : Load) (earlier later : ℕ) → earlier ≤ later → pages_before load earlier ≤ pages_before load later
+pages_rise load earlier later order =
+    let count = λ (start : Started). pages_of_found (slice_get load.programs start.program) in
+    rw (take-take earlier later load.starts order) at (sum_by-take-le count (take later load.starts) earlier)

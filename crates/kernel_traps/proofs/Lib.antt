@@ -5,3 +5,4 @@ pub mod BootStores
 pub mod BootRecords
 pub mod BootPages
 pub mod BootReady
+pub mod BootTables

@@ -9,3 +9,4 @@ pub mod Boot
 pub mod BootStores
 pub mod BootRecords
 pub mod BootPages
+pub mod BootTables

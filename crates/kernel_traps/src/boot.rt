@@ -30,3 +30,18 @@ fn build(plant: &mut Plant, load: &Load)
     set_records(plant, load);
     start_programs(plant, load);
 }
+
+/// Makes a kernel of a machine that is ready: the programs of the load are its processes, each in its slot, and nothing
+/// has been done yet. No store of boot is refused.
+pub fn boot(plant: &mut Plant, load: &Load)
+    requires ready { IsReady load.now.shape plant.old }
+    requires load { IsBootable load.now }
+    requires none { HasNoneAtBoot plant.old }
+    ensures started { unix_at plant.new ≡ start_of load.now }
+    ensures sound { IsSound plant.new }
+    ensures same { IsSameMachine plant.old plant.new }
+    ensures no_steps { plant.new.steps ≡ 0 }
+    ensures no_traps { plant.new.traps ≡ 0 }
+{
+    build(plant, load);
+}
