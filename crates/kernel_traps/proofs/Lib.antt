@@ -6,3 +6,4 @@ pub mod BootRecords
 pub mod BootPages
 pub mod BootReady
 pub mod BootTables
+pub mod BootWords

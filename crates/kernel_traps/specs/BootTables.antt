@@ -1,8 +1,11 @@
 -- What holds of the tables and the owners of a program that has started in a slot.
-use Rattle.std.specs.Prelude.{◌≡◌, ◌≢◌, ℕ, ◌+◌, ◌*◌, ◌<◌, ◌≤◌, false, nat_lt, if◌then◌else◌}
+use Rattle.std.specs.Prelude.{◌≡◌, ◌≢◌, ℕ, ◌+◌, ◌*◌, ◌<◌, ◌≤◌, false, nat_lt, if◌then◌else◌, Some, slice_index}
 use Rattle.ow_base.specs.Entries.{leaf_word, pointer_word}
+use Rattle.ow_base.specs.Sv32.{WordMap}
+use Rattle.ow_base.specs.World.{page_count}
 use Rattle.ow_base.specs.declared.machine.Rights.{Rights}
 use Rattle.ow_base.specs.declared.machine.Rights.TheVariants.{Code, Values}
+use Rattle.ow_base.specs.declared.worlds.Program.{Program}
 use Rattle.record_layouts.specs.Unix.{is_within}
 use Rattle.record_layouts.specs.Held.{Records}
 use Rattle.record_layouts.specs.Pages.{claim_of}
@@ -23,3 +26,12 @@ pub record HasTables (r : Records) (slot frame code_pages count : ℕ) : Type 0 
   pub root_clean : (word : ℕ) → word ≢ 0 → word ≢ 511 → r.table_words slot 0 word ≡ 0
   pub low_clean : (word : ℕ) → is_within 16 count word ≡ false → r.table_words slot 1 word ≡ 0
   pub high_clean : (word : ℕ) → is_within 1020 4 word ≡ false → r.table_words slot 2 word ≡ 0
+
+-- The words of a program lie in its frames: code, data, and the four frames of the stack, which are 0.
+pub record HasWords (words : WordMap) (frame : ℕ) (program : Program) : Type 0 where
+  pub code : (number word : ℕ) → number < page_count program.code → word < 1024
+      → words (129 + (frame + number)) word ≡ Some (slice_index program.code (1024 * number + word))
+  pub values : (number word : ℕ) → number < page_count program.values → word < 1024
+      → words (129 + (frame + page_count program.code + number)) word ≡ Some (slice_index program.values (1024 * number + word))
+  pub stack : (number word : ℕ) → number < 4 → word < 1024
+      → words (129 + (frame + (page_count program.code + page_count program.values) + number)) word ≡ Some 0

@@ -1,5 +1,6 @@
 use Rattle.std.proofs.Common.{◌≡◌}
 use Rattle.kernel_traps.proofs.BootTables.{tables_started}
+use Rattle.kernel_traps.proofs.BootWords.{words_started}
 use Rattle.kernel_traps.proofs.boot.boot.Goals as goal
 
 pub returns-clause-started : goal.returns-clause-started
