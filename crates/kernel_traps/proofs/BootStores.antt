@@ -105,7 +105,7 @@ boots_on old new number value is stored other =
     booting_on old new is stored.same_rest stored.able gate
 
 -- the records of a plant that boots are read from the words of its area
-records_shut : (s : PlantState) (map : MemoryMap) → IsBooting s → map.area_base ≡ 1
+pub records_shut : (s : PlantState) (map : MemoryMap) → IsBooting s → map.area_base ≡ 1
     → records_of map (words_of s.memory) ≡ records_in map true (area_at (words_of s.memory) 1)
 records_shut s map is base =
     let at : area_at (words_of s.memory) map.area_base ≡ area_at (words_of s.memory) 1 = ap (λ (b : ℕ). area_at (words_of s.memory) b) base in

@@ -7,3 +7,4 @@ pub mod BootPages
 pub mod BootReady
 pub mod BootTables
 pub mod BootWords
+pub mod BootHeld

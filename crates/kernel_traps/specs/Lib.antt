@@ -10,3 +10,4 @@ pub mod BootStores
 pub mod BootRecords
 pub mod BootPages
 pub mod BootTables
+pub mod BootState

@@ -1,6 +1,5 @@
 use Rattle.std.proofs.Common.{◌≡◌}
-use Rattle.kernel_traps.proofs.BootTables.{tables_started}
-use Rattle.kernel_traps.proofs.BootWords.{words_started}
+use Rattle.kernel_traps.proofs.BootHeld.{booted, words_booted}
 use Rattle.kernel_traps.proofs.boot.boot.Goals as goal
 
 pub returns-clause-started : goal.returns-clause-started
