@@ -8,3 +8,4 @@ pub mod BootReady
 pub mod BootTables
 pub mod BootWords
 pub mod BootHeld
+pub mod BootNumbers
