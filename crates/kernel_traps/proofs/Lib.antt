@@ -9,3 +9,4 @@ pub mod BootTables
 pub mod BootWords
 pub mod BootHeld
 pub mod BootNumbers
+pub mod BootFrames

@@ -1,0 +1,174 @@
+-- The frames of the pages of a process that has started.
+use Rattle.std.proofs.Common.{◌≡◌, ◌≢◌, ℕ, zero, suc, ◌+◌, ◌-◌, ◌*◌, ◌/◌, ◌%◌, ◌^◌, ◌<◌, ◌≤◌, Bool, true, false, nat_lt, nat_le, not, ◌==◌, ◌&&◌, ◌||◌, if◌then◌else◌, List, [], length, slice_index, Option, Some, None, is_some, refl, sym, ap, subst, ◌∙◌, inl, inr, arith}
+use Rattle.std.proofs.lemmas.Bool.{cases_lt}
+use Rattle.std.proofs.lemmas.Bool.Decides.{nat_tests}
+use Rattle.std.proofs.lemmas.List.{get_or_past}
+use Rattle.std.proofs.Math.Nat.{zero-div}
+use Rattle.ow_base.specs.Entries.{leaf_flags, leaf_word, pointer_word}
+use Rattle.ow_base.specs.Pages.{Pages}
+use Rattle.ow_base.specs.Sv32.{WordMap, byte_of, word_or_zero}
+use Rattle.ow_base.specs.Words.{byte_of_words}
+use Rattle.ow_base.specs.World.{page_count}
+use Rattle.ow_base.specs.declared.machine.Rights.{Rights}
+use Rattle.ow_base.specs.declared.machine.Rights.TheVariants.{Code, Values}
+use Rattle.ow_base.specs.declared.worlds.Program.{Program}
+use Rattle.record_layouts.specs.Held.{Records}
+use Rattle.record_layouts.specs.Pages.{byte_on, claim_of, entry_for, frame_by, frame_of, have_frames, heap_pages, is_linked, is_mapped, leaf_frame, owned, pages_of, region_of}
+use Rattle.record_layouts.specs.Sound.{is_table_place}
+use Rattle.record_layouts.specs.Unix.{is_within, started_byte, started_pages, started_rights}
+use Rattle.kernel_traps.specs.Boot.{IsLoadable}
+use Rattle.kernel_traps.specs.BootRecords.{started_record}
+use Rattle.kernel_traps.specs.BootTables.{HasTables, HasWords, low_rights}
+
+-- the frame of a leaf
+leaf_read : (frame : ℕ) (rights : Rights) → leaf_frame (leaf_word frame rights) rights ≡ Some frame
+leaf_read frame Code =
+    let flags : (leaf_word frame Code % 1024 == leaf_flags Code) ≡ true = grind (arith, nat_tests) in
+    let number : leaf_word frame Code / 1024 ≡ frame = omega arith in
+    rw (flags, number) refl
+leaf_read frame Values =
+    let flags : (leaf_word frame Values % 1024 == leaf_flags Values) ≡ true = grind (arith, nat_tests) in
+    let number : leaf_word frame Values / 1024 ≡ frame = omega arith in
+    rw (flags, number) refl
+
+-- each of so many pages has a frame where one by one they do
+have_all : (r : Records) (slot first count : ℕ) (process : _) → ((number : ℕ) → number < count → is_some (frame_of r slot process (first + number)) ≡ true)
+    → have_frames r slot process first count ≡ true
+unfolding have_frames
+have_all r slot first zero process each = refl
+have_all r slot first (suc count) process each =
+    let here : is_some (frame_of r slot process first) ≡ true = subst (λ (page : ℕ). is_some (frame_of r slot process page) ≡ true) (omega arith) (each 0 (omega arith)) in
+    rw here (have_all r slot (first + 1) count process (λ number few.
+    subst (λ (page : ℕ). is_some (frame_of r slot process page) ≡ true) (omega arith) (each (number + 1) (omega arith))))
+
+-- behind the last word there is no byte, and 0 has none
+byte_past : (words : List ℕ) (j : ℕ) → length words ≤ j / 4 → byte_of_words words j ≡ 0
+byte_past words j past = rw (get_or_past words (j / 4) 0 past) (ap (λ (n : ℕ). n % 256) (zero-div (256 ^ (j % 4))))
+
+zero_byte : (k : ℕ) → byte_of 0 k ≡ 0
+zero_byte k = ap (λ (n : ℕ). n % 256) (zero-div (256 ^ k))
+
+module _ (slot : ℕ) (program : Program) (loadable : IsLoadable program) where
+  -- the pages of the process are those that a program starts with
+  region_at : (page : ℕ) → region_of (started_record slot program) page ≡ started_rights (page_count program.code) (page_count program.values) page
+  unfolding region_of started_rights
+  region_at page = let no_heap : page_count program.values + 0 ≡ page_count program.values = omega arith in rw no_heap refl
+
+  pub region_started : region_of (started_record slot program) ≡ started_rights (page_count program.code) (page_count program.values)
+  region_started = λ i page. region_at page i
+
+  few : page_count program.code ≤ 64
+  few = omega (arith, loadable.code)
+
+  few_values : page_count program.values ≤ 64
+  few_values = omega (arith, loadable.values)
+
+  region_low : (number : ℕ) → number < page_count program.code + page_count program.values
+      → started_rights (page_count program.code) (page_count program.values) (16 + number) ≡ Some (low_rights (page_count program.code) number)
+  unfolding started_rights
+  region_low number low = elim (cases_lt number (page_count program.code)) [
+    | inl less ↦
+        let code : is_within 16 (page_count program.code) (16 + number) ≡ true = grind (arith, nat_tests) in
+        let is : nat_lt number (page_count program.code) ≡ true = grind (arith, nat_tests) in
+        rw (code, is) refl
+    | inr more ↦
+        let code : is_within 16 (page_count program.code) (16 + number) ≡ false = grind (arith, nat_tests) in
+        let values : is_within (16 + page_count program.code) (page_count program.values) (16 + number) ≡ true = grind (arith, nat_tests) in
+        let is : nat_lt number (page_count program.code) ≡ false = grind (arith, nat_tests) in
+        rw (code, values, is) refl
+  ]
+
+  region_high : (number : ℕ) → number < 4 → started_rights (page_count program.code) (page_count program.values) (0x7fffc + number) ≡ Some Values
+  unfolding started_rights
+  region_high number low =
+      let small = few in
+      let small_values = few_values in
+      let code : is_within 16 (page_count program.code) (0x7fffc + number) ≡ false = grind (arith, nat_tests) in
+      let values : is_within (16 + page_count program.code) (page_count program.values) (0x7fffc + number) ≡ false = grind (arith, nat_tests) in
+      let stack : is_within 0x7fffc 4 (0x7fffc + number) ≡ true = grind (arith, nat_tests) in
+      rw (code, values, stack) refl
+
+  region_none : (page : ℕ) → is_within 16 (page_count program.code + page_count program.values) page ≡ false → is_within 0x7fffc 4 page ≡ false
+      → started_rights (page_count program.code) (page_count program.values) page ≡ None
+  unfolding started_rights
+  region_none page out high =
+      let code : is_within 16 (page_count program.code) page ≡ false = grind (arith, nat_tests) in
+      let values : is_within (16 + page_count program.code) (page_count program.values) page ≡ false = grind (arith, nat_tests) in
+      rw (code, values, high) refl
+
+  module _ (r : Records) (frame : ℕ) (base : r.map.area_base ≡ 1) (pool : r.map.pool_base ≡ 129)
+      (tables : HasTables r slot frame (page_count program.code) (page_count program.code + page_count program.values)) where
+    linked_low : is_linked r slot 1 0 ≡ true
+    linked_low =
+        let word : r.table_words slot 0 0 ≡ pointer_word (r.map.area_base + (16 + 3 * slot + 1)) = omega (arith, tables.to_low, base) in
+        grind (arith, nat_tests, word)
+
+    linked_high : is_linked r slot 2 511 ≡ true
+    linked_high =
+        let word : r.table_words slot 0 511 ≡ pointer_word (r.map.area_base + (16 + 3 * slot + 2)) = omega (arith, tables.to_high, base) in
+        grind (arith, nat_tests, word)
+
+    entry_low : (number : ℕ) → number < 1000 → entry_for r slot (16 + number) ≡ Some (r.table_words slot 1 (16 + number))
+    unfolding entry_for
+    entry_low number low =
+        let first : ((16 + number) / 1024 == 0) ≡ true = grind (arith, nat_tests) in
+        let place : (16 + number) % 1024 ≡ 16 + number = omega arith in
+        rw (first, linked_low, place) refl
+
+    entry_high : (number : ℕ) → number < 4 → entry_for r slot (0x7fffc + number) ≡ Some (r.table_words slot 2 (1020 + number))
+    unfolding entry_for
+    entry_high number low =
+        let first : ((0x7fffc + number) / 1024 == 0) ≡ false = grind (arith, nat_tests) in
+        let last : ((0x7fffc + number) / 1024 == 511) ≡ true = grind (arith, nat_tests) in
+        let place : (0x7fffc + number) % 1024 ≡ 1020 + number = omega arith in
+        rw (first, last, linked_high, place) refl
+
+    owned_there : (page user : ℕ) → r.owners user ≡ claim_of slot page → owned r slot page (Some (129 + user)) ≡ Some (129 + user)
+    owned_there page user claimed =
+        let past : nat_lt (129 + user) r.map.pool_base ≡ false = grind (arith, nat_tests, pool) in
+        let place : 129 + user - r.map.pool_base ≡ user = omega (arith, pool) in
+        let same : (claim_of slot page == claim_of slot page) ≡ true = grind (arith, nat_tests) in
+        rw (past, place, claimed, same) refl
+
+    pub frame_low : (number : ℕ) → number < page_count program.code + page_count program.values
+        → frame_of r slot (started_record slot program) (16 + number) ≡ Some (129 + (frame + number))
+    unfolding frame_of
+    frame_low number low =
+        let entry = entry_low number (omega (arith, few, few_values)) ∙ ap Some (tables.low number low) in
+        let region = region_at (16 + number) ∙ region_low number low in
+        rw (entry, region)
+        (ap (owned r slot (16 + number)) (leaf_read (129 + (frame + number)) (low_rights (page_count program.code) number))
+        ∙ owned_there (16 + number) (frame + number) (tables.low_owner number low))
+
+    pub frame_high : (number : ℕ) → number < 4
+        → frame_of r slot (started_record slot program) (0x7fffc + number) ≡ Some (129 + (frame + (page_count program.code + page_count program.values) + number))
+    unfolding frame_of
+    frame_high number low =
+        let entry = entry_high number low ∙ ap Some (tables.high number low) in
+        let region = region_at (0x7fffc + number) ∙ region_high number low in
+        let user = frame + (page_count program.code + page_count program.values) + number in
+        rw (entry, region)
+        (ap (owned r slot (0x7fffc + number)) (leaf_read (129 + user) Values) ∙ owned_there (0x7fffc + number) user (tables.high_owner number low))
+
+    no_frame : (page : ℕ) → is_within 16 (page_count program.code + page_count program.values) page ≡ false → is_within 0x7fffc 4 page ≡ false
+        → frame_of r slot (started_record slot program) page ≡ None
+    unfolding frame_of
+    no_frame page out high =
+        let region = region_at page ∙ region_none page out high in
+        rw region (nothing (entry_for r slot page))
+      where
+        nothing : (entry : Option ℕ) → frame_by r slot page entry None ≡ None
+        nothing (Some entry) = refl
+        nothing None = refl
+
+    -- each page has its frame
+    pub is_mapped_there : is_mapped r slot (started_record slot program) ≡ true
+    unfolding is_mapped
+    is_mapped_there =
+        let no_heap : page_count program.code + (page_count program.values + 0) ≡ page_count program.code + page_count program.values = omega arith in
+        let low : have_frames r slot (started_record slot program) 16 (page_count program.code + page_count program.values) ≡ true =
+        have_all r slot 16 (page_count program.code + page_count program.values) (started_record slot program)
+        (λ number few. ap (λ o. is_some o) (frame_low number few)) in
+        let high : have_frames r slot (started_record slot program) 0x7fffc 4 ≡ true =
+        have_all r slot 0x7fffc 4 (started_record slot program) (λ number few. ap (λ o. is_some o) (frame_high number few)) in
+        rw (linked_low, linked_high, no_heap, low, high) refl
