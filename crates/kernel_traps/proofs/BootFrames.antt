@@ -1,6 +1,6 @@
 -- The frames of the pages of a process that has started.
 use Rattle.std.proofs.Common.{◌≡◌, ◌≢◌, ℕ, zero, suc, ◌+◌, ◌-◌, ◌*◌, ◌/◌, ◌%◌, ◌^◌, ◌<◌, ◌≤◌, Bool, true, false, nat_lt, nat_le, not, ◌==◌, ◌&&◌, ◌||◌, if◌then◌else◌, List, [], length, slice_index, Option, Some, None, is_some, refl, sym, ap, subst, ◌∙◌, inl, inr, arith}
-use Rattle.std.proofs.lemmas.Bool.{cases_lt}
+use Rattle.std.proofs.lemmas.Bool.{cases_Bool, cases_lt}
 use Rattle.std.proofs.lemmas.Bool.Decides.{nat_tests}
 use Rattle.std.proofs.lemmas.List.{get_or_past}
 use Rattle.std.proofs.Math.Nat.{zero-div}
@@ -172,3 +172,132 @@ module _ (slot : ℕ) (program : Program) (loadable : IsLoadable program) where
         let high : have_frames r slot (started_record slot program) 0x7fffc 4 ≡ true =
         have_all r slot 0x7fffc 4 (started_record slot program) (λ number few. ap (λ o. is_some o) (frame_high number few)) in
         rw (linked_low, linked_high, no_heap, low, high) refl
+
+    -- and no other word of the tables is used
+    not_low : (word : ℕ) → is_some (region_of (started_record slot program) word) ≡ false
+        → is_within 16 (page_count program.code + page_count program.values) word ≡ false
+    not_low word none = elim (cases_Bool (is_within 16 (page_count program.code + page_count program.values) word)) [
+      | inl within ↦
+          let low : 16 ≤ word = grind (arith, nat_tests) in
+          let high : word < 16 + (page_count program.code + page_count program.values) = grind (arith, nat_tests) in
+          let place : 16 + (word - 16) ≡ word = omega arith in
+          let some = subst (λ (page : ℕ). started_rights (page_count program.code) (page_count program.values) page
+          ≡ Some (low_rights (page_count program.code) (word - 16))) place (region_low (word - 16) (omega arith)) in
+          absurd (cc (none, ap (λ o. is_some o) (region_at word ∙ some)))
+      | inr out ↦ out
+    ]
+
+    not_high : (word : ℕ) → is_some (region_of (started_record slot program) (1024 * 511 + word)) ≡ false → is_within 1020 4 word ≡ false
+    not_high word none = elim (cases_Bool (is_within 1020 4 word)) [
+      | inl within ↦
+          let low : 1020 ≤ word = grind (arith, nat_tests) in
+          let high : word < 1024 = grind (arith, nat_tests) in
+          let place : 0x7fffc + (word - 1020) ≡ 1024 * 511 + word = omega arith in
+          let some = subst (λ (page : ℕ). started_rights (page_count program.code) (page_count program.values) page ≡ Some Values)
+          place (region_high (word - 1020) (omega arith)) in
+          absurd (cc (none, ap (λ o. is_some o) (region_at (1024 * 511 + word) ∙ some)))
+      | inr out ↦ out
+    ]
+
+    pub clean_there : (table word : ℕ) → table < 3 → word < 1024 → is_table_place (started_record slot program) table word ≡ false
+        → r.table_words slot table word ≡ 0
+    clean_there zero word low small out =
+        tables.root_clean word (λ e. absurd (grind (arith, nat_tests, e, out))) (λ e. absurd (grind (arith, nat_tests, e, out)))
+    clean_there (suc zero) word low small out =
+        let none : is_some (region_of (started_record slot program) word) ≡ false = grind (arith, nat_tests, out) in
+        tables.low_clean word (not_low word none)
+    clean_there (suc (suc zero)) word low small out =
+        let none : is_some (region_of (started_record slot program) (1024 * 511 + word)) ≡ false = grind (arith, nat_tests, out) in
+        tables.high_clean word (not_high word none)
+    clean_there (suc (suc (suc n))) word low small out = absurd (omega arith)
+
+    -- the bytes of its pages
+    module _ (words : WordMap) (has : HasWords words frame program) where
+      byte_at : (a : ℕ) → ℕ
+      byte_at a = byte_on words (a % 4096) (frame_of r slot (started_record slot program) (a / 4096))
+
+      byte_of_frame : (a page user word : ℕ) → a / 4096 ≡ page → frame_of r slot (started_record slot program) page ≡ Some (129 + user)
+          → words (129 + user) (a % 4096 / 4) ≡ Some word → byte_at a ≡ byte_of word (a % 4096 % 4)
+      unfolding byte_at
+      byte_of_frame a page user word is found there = rw (is, found, there) refl
+
+      byte_of_none : (a : ℕ) → frame_of r slot (started_record slot program) (a / 4096) ≡ None → byte_at a ≡ 0
+      unfolding byte_at
+      byte_of_none a none = rw none refl
+
+      byte_before : (a : ℕ) → a < 65536 → byte_at a ≡ started_byte program.code program.values a
+      unfolding started_byte
+      byte_before a low =
+          let test : nat_lt a 65536 ≡ true = grind (arith, nat_tests) in
+          rw test (byte_of_none a (no_frame (a / 4096) (grind (arith, nat_tests)) (grind (arith, nat_tests))))
+
+      byte_of_code : (a : ℕ) → 65536 ≤ a → a < 65536 + 4096 * page_count program.code → byte_at a ≡ started_byte program.code program.values a
+      unfolding started_byte
+      byte_of_code a low high =
+          let test : nat_lt a 65536 ≡ false = grind (arith, nat_tests) in
+          let inside : nat_lt a (65536 + 4096 * page_count program.code) ≡ true = grind (arith, nat_tests) in
+          let number = a / 4096 - 16 in
+          let page : a / 4096 ≡ 16 + number = omega arith in
+          let place : 1024 * number + a % 4096 / 4 ≡ (a - 65536) / 4 = omega arith in
+          let rest : a % 4096 % 4 ≡ (a - 65536) % 4 = omega arith in
+          rw (test, inside)
+          (byte_of_frame a (16 + number) (frame + number) (slice_index program.code (1024 * number + a % 4096 / 4)) page
+          (frame_low number (omega arith)) (has.code number (a % 4096 / 4) (omega arith) (omega arith))
+          ∙ rw (place, rest) refl)
+
+      byte_of_values : (a : ℕ) → 65536 + 4096 * page_count program.code ≤ a
+          → a < 65536 + 4096 * page_count program.code + 4096 * page_count program.values → byte_at a ≡ started_byte program.code program.values a
+      unfolding started_byte
+      byte_of_values a low high =
+          let test : nat_lt a 65536 ≡ false = grind (arith, nat_tests) in
+          let inside : nat_lt a (65536 + 4096 * page_count program.code) ≡ false = grind (arith, nat_tests) in
+          let number = a / 4096 - 16 - page_count program.code in
+          let page : a / 4096 ≡ 16 + (page_count program.code + number) = omega arith in
+          let user : frame + page_count program.code + number ≡ frame + (page_count program.code + number) = omega arith in
+          let place : 1024 * number + a % 4096 / 4 ≡ (a - (65536 + 4096 * page_count program.code)) / 4 = omega arith in
+          let rest : a % 4096 % 4 ≡ (a - (65536 + 4096 * page_count program.code)) % 4 = omega arith in
+          let there = subst (λ (f : ℕ). words (129 + f) (a % 4096 / 4) ≡ Some (slice_index program.values (1024 * number + a % 4096 / 4))) user
+          (has.values number (a % 4096 / 4) (omega arith) (omega arith)) in
+          rw (test, inside)
+          (byte_of_frame a (16 + (page_count program.code + number)) (frame + (page_count program.code + number))
+          (slice_index program.values (1024 * number + a % 4096 / 4)) page
+          (frame_low (page_count program.code + number) (omega arith)) there
+          ∙ rw (place, rest) refl)
+
+      zero_behind : (a : ℕ) → 65536 + 4096 * page_count program.code + 4096 * page_count program.values ≤ a → started_byte program.code program.values a ≡ 0
+      unfolding started_byte
+      zero_behind a low =
+          let test : nat_lt a 65536 ≡ false = grind (arith, nat_tests) in
+          let inside : nat_lt a (65536 + 4096 * page_count program.code) ≡ false = grind (arith, nat_tests) in
+          rw (test, inside) (byte_past program.values (a - (65536 + 4096 * page_count program.code)) (omega arith))
+
+      byte_of_stack : (a : ℕ) → is_within 0x7fffc 4 (a / 4096) ≡ true → byte_at a ≡ 0
+      byte_of_stack a within =
+          let low : 0x7fffc ≤ a / 4096 = grind (arith, nat_tests) in
+          let high : a / 4096 < 0x80000 = grind (arith, nat_tests) in
+          let number = a / 4096 - 0x7fffc in
+          byte_of_frame a (0x7fffc + number) (frame + (page_count program.code + page_count program.values) + number) 0 (omega arith)
+          (frame_high number (omega arith)) (has.stack number (a % 4096 / 4) (omega arith) (omega arith))
+          ∙ zero_byte (a % 4096 % 4)
+
+      byte_behind : (a : ℕ) → 65536 + 4096 * page_count program.code + 4096 * page_count program.values ≤ a → byte_at a ≡ started_byte program.code program.values a
+      byte_behind a low = elim (cases_Bool (is_within 0x7fffc 4 (a / 4096))) [
+        | inl within ↦ byte_of_stack a within ∙ sym (zero_behind a low)
+        | inr out ↦ byte_of_none a (no_frame (a / 4096) (grind (arith, nat_tests)) out) ∙ sym (zero_behind a low)
+      ]
+
+      byte_same : (a : ℕ) → byte_at a ≡ started_byte program.code program.values a
+      byte_same a = elim (cases_lt a 65536) [
+        | inl less ↦ byte_before a less
+        | inr more ↦ elim (cases_lt a (65536 + 4096 * page_count program.code)) [
+          | inl code ↦ byte_of_code a more code
+          | inr past ↦ elim (cases_lt a (65536 + 4096 * page_count program.code + 4096 * page_count program.values)) [
+            | inl values ↦ byte_of_values a past values
+            | inr behind ↦ byte_behind a behind
+          ]
+        ]
+      ]
+
+      pub pages_there : pages_of r words slot (started_record slot program) ≡ started_pages program
+      unfolding pages_of started_pages byte_at
+      pages_there = λ i. record { rights = region_started i; bytes = λ a. byte_same a i }
