@@ -99,7 +99,7 @@ module _ (r : Records) (load : Load) (is : IsBootable load) (booted : IsBooted r
       ]
 
   -- no process is in a call, and none has ended or has a parent
-  state_small : (slot : ℕ) (process : ProcRec) → r.procs slot ≡ Some process → (process.state ≤ 1) × (process.parent ≡ 0)
+  pub state_small : (slot : ℕ) (process : ProcRec) → r.procs slot ≡ Some process → (process.state ≤ 1) × (process.parent ≡ 0)
   state_small slot process there =
       let which = process_is slot process there in
       elim (cases_lt slot (length load.starts)) [

@@ -10,3 +10,4 @@ pub mod BootWords
 pub mod BootHeld
 pub mod BootNumbers
 pub mod BootFrames
+pub mod BootUnix
