@@ -159,3 +159,14 @@ module _ {Rest : Type 0} (h : Held Rest) (load : Load) (is : IsBootable load) (c
             rw (← same) (rw found (has_tables (with_starts h load slot) slot (pages_before load slot) program code values
             (λ t w. later_tables h load slot slot t w (omega arith) ∙ clean slot t w)))
       ]
+
+-- nothing else of a plant changes
+start_rest : {Rest : Type 0} (h : Held Rest) (slot frame : ℕ) (program : Option Program) → (with_start h slot frame program).rest ≡ h.rest
+unfolding with_frame_words
+start_rest h slot frame (Some program) = refl
+start_rest h slot frame None = refl
+
+pub starts_rest : {Rest : Type 0} (h : Held Rest) (load : Load) (count : ℕ) → (with_starts h load count).rest ≡ h.rest
+unfolding with_starts
+starts_rest h load zero = refl
+starts_rest h load (suc n) = start_rest (with_starts h load n) n (pages_before load n) (program_in load n) ∙ starts_rest h load n

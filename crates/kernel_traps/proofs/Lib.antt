@@ -11,3 +11,4 @@ pub mod BootHeld
 pub mod BootNumbers
 pub mod BootFrames
 pub mod BootUnix
+pub mod BootSound

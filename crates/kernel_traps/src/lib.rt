@@ -2,9 +2,10 @@
 //! byte before it goes out, and the trap ends with the last of its records.
 #![tactic(auto)]
 
-mod boot;
+mod booting;
 mod ending;
 mod services;
 mod turns;
 
+pub use booting::boot;
 pub use turns::Turn;
