@@ -1,19 +1,18 @@
 -- The frames of the pages of a process that has started.
-use Rattle.std.proofs.Common.{◌≡◌, ◌≢◌, ℕ, zero, suc, ◌+◌, ◌-◌, ◌*◌, ◌/◌, ◌%◌, ◌^◌, ◌<◌, ◌≤◌, Bool, true, false, nat_lt, nat_le, not, ◌==◌, ◌&&◌, ◌||◌, if◌then◌else◌, List, [], length, slice_index, Option, Some, None, is_some, refl, sym, ap, subst, ◌∙◌, inl, inr, arith}
+use Rattle.std.proofs.Common.{◌≡◌, ℕ, zero, suc, ◌+◌, ◌-◌, ◌*◌, ◌/◌, ◌%◌, ◌^◌, ◌<◌, ◌≤◌, true, false, nat_lt, ◌==◌, List, length, slice_index, Option, Some, None, is_some, refl, sym, ap, subst, ◌∙◌, inl, inr, arith}
 use Rattle.std.proofs.lemmas.Bool.{cases_Bool, cases_lt}
 use Rattle.std.proofs.lemmas.Bool.Decides.{nat_tests}
 use Rattle.std.proofs.lemmas.List.{get_or_past}
 use Rattle.std.proofs.Math.Nat.{zero-div}
 use Rattle.ow_base.specs.Entries.{leaf_flags, leaf_word, pointer_word}
-use Rattle.ow_base.specs.Pages.{Pages}
-use Rattle.ow_base.specs.Sv32.{WordMap, byte_of, word_or_zero}
+use Rattle.ow_base.specs.Sv32.{WordMap, byte_of}
 use Rattle.ow_base.specs.Words.{byte_of_words}
 use Rattle.ow_base.specs.World.{page_count}
 use Rattle.ow_base.specs.declared.machine.Rights.{Rights}
 use Rattle.ow_base.specs.declared.machine.Rights.TheVariants.{Code, Values}
 use Rattle.ow_base.specs.declared.worlds.Program.{Program}
 use Rattle.record_layouts.specs.Held.{Records}
-use Rattle.record_layouts.specs.Pages.{byte_on, claim_of, entry_for, frame_by, frame_of, have_frames, heap_pages, is_linked, is_mapped, leaf_frame, owned, pages_of, region_of}
+use Rattle.record_layouts.specs.Pages.{byte_on, claim_of, entry_for, frame_by, frame_of, have_frames, is_linked, is_mapped, leaf_frame, owned, pages_of, region_of}
 use Rattle.record_layouts.specs.Sound.{is_table_place}
 use Rattle.record_layouts.specs.Unix.{is_within, started_byte, started_pages, started_rights}
 use Rattle.kernel_traps.specs.Boot.{IsLoadable}

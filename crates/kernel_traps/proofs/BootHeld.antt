@@ -1,5 +1,5 @@
 -- What is held once a machine has booted.
-use Rattle.std.proofs.Common.{◌≡◌, ℕ, ◌+◌, ◌*◌, ◌<◌, ◌≤◌, Bool, true, false, nat_lt, ◌&&◌, if◌then◌else◌, length, Option, Some, None, refl, sym, ap, ◌∙◌, arith}
+use Rattle.std.proofs.Common.{◌≡◌, ℕ, ◌+◌, ◌*◌, ◌<◌, ◌≤◌, true, false, nat_lt, length, Option, Some, None, refl, sym, ap, ◌∙◌, arith}
 use Rattle.std.proofs.lemmas.Bool.Decides.{nat_tests}
 use Rattle.ow_base.specs.Sv32.{WordMap}
 use Rattle.ow_base.specs.World.{page_count}
@@ -14,13 +14,13 @@ use Rattle.record_layouts.specs.Reading.{records_in, records_of}
 use Rattle.record_layouts.specs.Spelling.{lies_between}
 use Rattle.record_layouts.specs.Unix.{is_within}
 use Rattle.ow_plant.specs.State.{PlantState, IsReady}
-use Rattle.intent_store.specs.Live.{held_of, map_of, records_held, rest_of}
+use Rattle.intent_store.specs.Live.{held_of, map_of, records_held}
 use Rattle.kernel_traps.specs.Boot.{IsBootable, program_in}
 use Rattle.kernel_traps.specs.BootPages.{pages_before, with_starts}
 use Rattle.kernel_traps.specs.BootRecords.{set_from, with_booted}
 use Rattle.kernel_traps.specs.BootState.{IsBooted}
 use Rattle.kernel_traps.specs.BootStores.{IsBooting}
-use Rattle.kernel_traps.specs.BootTables.{HasTables, HasWords}
+use Rattle.kernel_traps.specs.BootTables.{HasWords}
 use Rattle.kernel_traps.proofs.BootPages.{map_held}
 use Rattle.kernel_traps.proofs.BootReady.{area_zero}
 use Rattle.kernel_traps.proofs.BootStores.{booting_base, records_shut}

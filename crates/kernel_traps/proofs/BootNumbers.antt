@@ -1,5 +1,5 @@
 -- The pids and the descriptions of a kernel that has booted.
-use Rattle.std.proofs.Common.{◌≡◌, ◌≢◌, ℕ, zero, suc, ◌+◌, ◌-◌, ◌<◌, ◌≤◌, Bool, true, false, nat_lt, nat_le, ◌==◌, if◌then◌else◌, length, slice_index, slice_get, Option, Some, None, refl, sym, ap, subst, ◌∙◌, inl, inr, arith}
+use Rattle.std.proofs.Common.{◌≡◌, ◌≢◌, ℕ, zero, suc, ◌+◌, ◌-◌, ◌<◌, ◌≤◌, true, false, nat_lt, nat_le, length, slice_index, slice_get, Option, Some, None, refl, sym, ap, ◌∙◌, inl, inr, arith}
 use Rattle.std.proofs.lemmas.Bool.{cases_lt, cases_Bool}
 use Rattle.std.proofs.lemmas.Bool.Decides.{nat_tests}
 use Rattle.std.proofs.lemmas.Option.{slice_get_past, slice_get-get_or}
@@ -7,8 +7,6 @@ use Rattle.ow_base.specs.declared.worlds.Load.{Load}
 use Rattle.ow_base.specs.declared.worlds.Program.{Program}
 use Rattle.ow_base.specs.declared.worlds.Start.{Start as Started}
 use Rattle.record_layouts.specs.declared.desc.DescRec.{DescRec}
-use Rattle.record_layouts.specs.declared.exit.ExitRec.{ExitRec}
-use Rattle.record_layouts.specs.declared.head.HeadRec.{HeadRec}
 use Rattle.record_layouts.specs.declared.proc.ProcRec.{ProcRec}
 use Rattle.record_layouts.specs.declared.sig.SigRec.{SigRec}
 use Rattle.record_layouts.specs.Decode.{next_by, slot_by}
@@ -18,7 +16,7 @@ use Rattle.record_layouts.specs.Sound.{AreInCalls, AreNumbered, IsIn, is_used}
 use Rattle.record_layouts.specs.Spelling.{lies_between}
 use Rattle.syscalls.specs.Serving.{AreOnTerminals}
 use Rattle.kernel_traps.specs.Boot.{IsBootable, program_in}
-use Rattle.kernel_traps.specs.BootRecords.{booted_description, booted_exit, booted_head, booted_process, booted_signals, description_for, free_process, started_descs, started_record}
+use Rattle.kernel_traps.specs.BootRecords.{booted_description, booted_exit, booted_process, booted_signals, description_for, free_process, started_descs, started_record}
 use Rattle.kernel_traps.specs.BootState.{IsBooted}
 use Rattle.kernel_traps.specs.Plants.{AreInWrites}
 use Rattle.kernel_traps.proofs.BootPages.{start_there}

@@ -1,5 +1,5 @@
 -- What boot makes of tables, of owners and of the frames of pages.
-use Rattle.std.proofs.Common.{◌≡◌, ℕ, zero, suc, ◌+◌, ◌-◌, ◌*◌, ◌/◌, ◌%◌, ◌<◌, ◌≤◌, Bool, true, false, nat_lt, ◌==◌, ◌&&◌, if◌then◌else◌, List, [], length, take, slice_index, slice_get, get_or, Option, Some, None, option_and_then, add-one, refl, sym, ap, subst, ◌∙◌, arith}
+use Rattle.std.proofs.Common.{◌≡◌, ℕ, ◌+◌, ◌-◌, ◌*◌, ◌/◌, ◌%◌, ◌<◌, ◌≤◌, true, false, nat_lt, ◌==◌, ◌&&◌, if◌then◌else◌, List, [], length, take, slice_index, slice_get, get_or, Option, Some, option_and_then, add-one, refl, sym, ap, subst, ◌∙◌, arith}
 use Rattle.std.proofs.lemmas.Bool.Decides.{nat_tests}
 use Rattle.std.proofs.lemmas.List.{take-take}
 use Rattle.std.proofs.lemmas.List.Elements.{All-get_or}
@@ -12,16 +12,12 @@ use Rattle.ow_base.specs.declared.worlds.Load.{Load}
 use Rattle.ow_base.specs.declared.worlds.Program.{Program}
 use Rattle.ow_base.specs.declared.worlds.Start.{Start as Started}
 use Rattle.ow_plant.specs.State.{PlantState}
-use Rattle.phys_memory.specs.Memory.{words_of}
-use Rattle.record_layouts.specs.declared.memory_map.MemoryMap.{MemoryMap}
-use Rattle.record_layouts.specs.Held.{Held, Records, is_of_area, stored, with_area_words, with_owner_words, with_table_words, with_words}
+use Rattle.record_layouts.specs.Held.{Held, Records, is_of_area, stored, with_words}
 use Rattle.record_layouts.specs.Pages.{claim_of}
 use Rattle.record_layouts.specs.Reading.{records_in, records_of}
-use Rattle.intent_store.specs.Live.{held_of, map_of, records_held, rest_of}
+use Rattle.intent_store.specs.Live.{map_of, records_held}
 use Rattle.kernel_traps.specs.Boot.{IsBootable, IsLoadable, IsStartable, program_in}
 use Rattle.kernel_traps.specs.BootPages.{pages_before, with_entry, with_frame_words, with_leaves, with_owner, with_start, with_starts}
-use Rattle.kernel_traps.specs.BootStores.{IsBooting}
-use Rattle.kernel_traps.proofs.BootStores.{booting_base}
 
 -- the records of a plant are of its map
 pub map_held : (s : PlantState) → (records_held s).map ≡ map_of s

@@ -1,12 +1,11 @@
 -- A machine that is ready can boot: its memory is 0.
-use Rattle.std.proofs.Common.{◌≡◌, ℕ, ◌+◌, ◌*◌, ◌/◌, ◌%◌, ◌<◌, ◌≤◌, true, false, nat_lt, ◌&&◌, if◌then◌else◌, Option, Some, None, refl, sym, ap, ◌∙◌, inl, inr, arith}
+use Rattle.std.proofs.Common.{◌≡◌, ℕ, ◌+◌, ◌*◌, ◌/◌, ◌%◌, ◌≤◌, ap, inl, inr, arith}
 use Rattle.std.proofs.lemmas.Bool.{cases_lt}
-use Rattle.std.proofs.lemmas.Bool.Decides.{nat_tests}
 use Rattle.ow_base.specs.declared.machine.Shape.{Shape}
-use Rattle.phys_memory.specs.Memory.{MemoryParts, IsSized, frame_count, words_of, zeroed}
+use Rattle.phys_memory.specs.Memory.{words_of, zeroed}
 use Rattle.phys_memory.proofs.Words.{IsSized-zeroed, frame_count-sized, words_of-none, words_of-past, words_of-zeroed}
-use Rattle.record_layouts.specs.Overlay.{Area, area_at, or_zero}
-use Rattle.ow_plant.specs.State.{PlantState, IsArmed, IsReady}
+use Rattle.record_layouts.specs.Overlay.{area_at, or_zero}
+use Rattle.ow_plant.specs.State.{PlantState, IsReady}
 use Rattle.kernel_traps.specs.BootStores.{HasNoneAtBoot, IsBooting}
 
 -- each word is 0

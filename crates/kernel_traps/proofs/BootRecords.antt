@@ -1,15 +1,15 @@
 -- The records that a kernel boots with.
-use Rattle.std.proofs.Common.{◌≡◌, ℕ, ◌+◌, ◌<◌, ◌≤◌, List, [], ◌∷◌, Option, Some, None, replicate, refl, ap, sym, ◌∙◌, inl, inr, arith, rules}
+use Rattle.std.proofs.Common.{◌≡◌, ℕ, ◌+◌, ◌<◌, [], ◌∷◌, Option, Some, replicate, refl, ap, arith}
 use Rattle.std.proofs.lemmas.Bool.Decides.{nat_tests}
 use Rattle.std.proofs.lemmas.List.{get_or-replicate}
 use Rattle.std.proofs.lemmas.List.Elements.{All-nil}
 use Rattle.ow_base.specs.Words.{updated}
 use Rattle.record_layouts.specs.Spelling.{AreZero}
-use Rattle.record_layouts.specs.Proc.{FitsFree, FitsProc, IsBlankBank, IsOver}
+use Rattle.record_layouts.specs.Proc.{FitsProc, IsBlankBank, IsOver}
 use Rattle.process_table.specs.Patches.{blank_bank}
 use Rattle.ow_base.specs.declared.worlds.Load.{Load}
-use Rattle.record_layouts.specs.File.{FitsFile, FitsState}
-use Rattle.record_layouts.specs.Held.{Held, Records, patched}
+use Rattle.record_layouts.specs.File.{FitsFile}
+use Rattle.record_layouts.specs.Held.{Held, patched}
 use Rattle.record_layouts.specs.declared.patch.AnyRec.TheVariants as any
 use Rattle.record_layouts.specs.declared.places.RecordId.TheVariants as id
 use Rattle.record_layouts.specs.declared.proc.ProcRec.{ProcRec}

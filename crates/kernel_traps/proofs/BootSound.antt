@@ -1,35 +1,26 @@
 -- A kernel that has booted is sound.
-use Rattle.std.proofs.Common.{◌≡◌, ℕ, zero, suc, ◌+◌, ◌*◌, ◌<◌, ◌≤◌, Bool, true, false, ◌==◌, if◌then◌else◌, List, [], length, drop, Option, Some, None, IfSome, is_some, refl, sym, ap, subst, ◌∙◌, inl, inr, arith}
-use Rattle.std.proofs.lemmas.Bool.{cases_lt}
-use Rattle.std.proofs.lemmas.Bool.Decides.{nat_tests}
+use Rattle.std.proofs.Common.{◌≡◌, ℕ, ◌+◌, ◌*◌, ◌<◌, Bool, true, false, ◌==◌, if◌then◌else◌, [], length, is_some, refl, sym, ap, subst, ◌∙◌, arith}
 use Rattle.ow_base.specs.Screen.{blank_screen, screen_of}
-use Rattle.ow_base.specs.World.{page_count}
 use Rattle.ow_base.specs.declared.machine.Shape.{Shape}
 use Rattle.ow_base.specs.declared.worlds.Load.{Load}
-use Rattle.ow_base.specs.declared.worlds.Program.{Program}
 use Rattle.phys_memory.specs.Memory.{words_of}
-use Rattle.record_layouts.specs.declared.head.HeadRec.{HeadRec}
 use Rattle.record_layouts.specs.declared.proc.ProcRec.{ProcRec}
-use Rattle.record_layouts.specs.declared.term.TermRec.{TermRec}
-use Rattle.record_layouts.specs.Decode.{InKernel}
 use Rattle.record_layouts.specs.Held.{AreComplete, AreValues, Held, Records}
 use Rattle.record_layouts.specs.Pages.{is_mapped}
-use Rattle.record_layouts.specs.Reading.{records_of}
-use Rattle.record_layouts.specs.Sound.{AreMapped, AreSound, IsIn, is_table_place}
+use Rattle.record_layouts.specs.Sound.{AreSound, IsIn, is_table_place}
 use Rattle.record_layouts.specs.Unix.{start_of}
 use Rattle.record_layouts.specs.Values.{are_values}
 use Rattle.tty_screen.specs.Shown.{IsBlank, ShowsScreen}
-use Rattle.ow_plant.specs.State.{PlantState, IsReady, now_of, silent_terminal as silent_device, tty_of, Terminal as Device}
-use Rattle.intent_store.specs.Live.{gate_held, held_of, map_of, records_held, rest_of}
+use Rattle.ow_plant.specs.State.{PlantState, IsReady, silent_terminal as silent_device, tty_of, Terminal as Device}
+use Rattle.intent_store.specs.Live.{held_of, map_of, records_held, rest_of}
 use Rattle.intent_store.proofs.Holding.{shut_gate}
 use Rattle.tty_screen.proofs.ShownScreens.{blank_shows}
-use Rattle.kernel_traps.specs.Boot.{IsBootable, program_in}
+use Rattle.kernel_traps.specs.Boot.{IsBootable}
 use Rattle.kernel_traps.specs.BootPages.{pages_before, with_starts}
-use Rattle.kernel_traps.specs.BootRecords.{booted_head, silent_record, started_record, with_booted}
+use Rattle.kernel_traps.specs.BootRecords.{silent_record, with_booted}
 use Rattle.kernel_traps.specs.BootState.{IsBooted}
 use Rattle.kernel_traps.specs.BootStores.{IsBooting}
-use Rattle.kernel_traps.specs.BootTables.{HasWords}
-use Rattle.kernel_traps.specs.Plants.{AreTerminalsSound, HasBytes, IsHeldSound, IsOfDevice, IsSound, context_of, tapes_of, unix_at}
+use Rattle.kernel_traps.specs.Plants.{AreTerminalsSound, HasBytes, IsHeldSound, IsOfDevice, IsSound, tapes_of, unix_at}
 use Rattle.kernel_traps.specs.Turning.{IsSameMachine}
 use Rattle.kernel_traps.proofs.BootFrames.{clean_there, is_mapped_there}
 use Rattle.kernel_traps.proofs.BootHeld.{booted, words_booted}

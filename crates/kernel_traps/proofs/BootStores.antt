@@ -1,26 +1,23 @@
 -- What the stores of boot make of a plant.
-use Rattle.std.proofs.Common.{◌≡◌, ℕ, ◌+◌, ◌-◌, ◌*◌, ◌/◌, ◌%◌, ◌<◌, ◌≤◌, false, true, if◌then◌else◌, ◌==◌, List, [], ◌∷◌, All, length, slice_index, refl, sym, ap, ◌∙◌, arith, rules}
-use Rattle.std.specs.List.{list_any}
+use Rattle.std.proofs.Common.{◌≡◌, ℕ, ◌+◌, ◌*◌, ◌/◌, ◌%◌, ◌<◌, ◌≤◌, false, true, ◌==◌, List, [], ◌∷◌, All, length, slice_index, refl, sym, ap, ◌∙◌, arith, rules}
 use Rattle.std.proofs.lemmas.Bool.Decides.{nat_tests}
 use Rattle.std.proofs.lemmas.List.Elements.{All-cons, All-nil, All-weaker}
 use Rattle.std.proofs.lemmas.List.Folds.{list_any_none}
 use Rattle.ow_base.specs.Sv32.{WordMap}
 use Rattle.ow_base.specs.Words.{updated}
-use Rattle.ow_base.specs.declared.machine.AreaId.{AreaId}
-use Rattle.ow_base.specs.declared.machine.AreaId.TheVariants.{A}
 use Rattle.phys_memory.specs.Memory.{words_of, frame_count}
 use Rattle.phys_memory.proofs.Words.{frame_count-sized}
-use Rattle.record_layouts.specs.Overlay.{Area, HasArea, area_at, lies_in, may_change, WordRange, gate_word, laid}
-use Rattle.record_layouts.specs.Held.{Records, beside, is_direct, patched, stored, with_items, with_words}
+use Rattle.record_layouts.specs.Overlay.{Area, area_at, may_change, WordRange, gate_word, laid}
+use Rattle.record_layouts.specs.Held.{Records, beside, is_direct, patched, stored, with_items}
 use Rattle.record_layouts.specs.Patch.{IsPatch, IsPatchItem}
 use Rattle.record_layouts.specs.Reading.{records_in, records_of}
-use Rattle.record_layouts.specs.Seam.{AreSpelled, IsSpelled, Spells}
+use Rattle.record_layouts.specs.Seam.{AreSpelled}
 use Rattle.record_layouts.specs.declared.memory_map.MemoryMap.{MemoryMap}
 use Rattle.record_layouts.specs.declared.patch.PatchItem.{PatchItem}
 use Rattle.record_layouts.proofs.Stores.{records_closed}
 use Rattle.record_layouts.proofs.Seam.{patch_sets}
 use Rattle.ow_plant.specs.Points.{is_past}
-use Rattle.ow_plant.specs.State.{PlantState, IsArmed, refuses, with_stored}
+use Rattle.ow_plant.specs.State.{PlantState, refuses, with_stored}
 use Rattle.ow_plant.specs.declared.points.PanicPoint.{PanicPoint}
 use Rattle.intent_store.specs.Live.{held_of, map_of, records_held, rest_of}
 use Rattle.intent_store.specs.Stores.{with_frame, with_word_at}

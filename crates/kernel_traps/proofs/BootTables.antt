@@ -1,16 +1,16 @@
 -- The tables and the owners after all programs have started.
-use Rattle.std.proofs.Common.{◌≡◌, ◌≢◌, ℕ, zero, suc, ◌+◌, ◌-◌, ◌*◌, ◌/◌, ◌%◌, ◌<◌, ◌≤◌, Bool, true, false, nat_lt, ◌==◌, ◌&&◌, if◌then◌else◌, List, length, Option, Some, None, refl, sym, ap, ◌∙◌, inl, inr, arith, add-one}
+use Rattle.std.proofs.Common.{◌≡◌, ◌≢◌, ℕ, zero, suc, ◌+◌, ◌*◌, ◌<◌, ◌≤◌, false, ◌==◌, List, length, Option, Some, None, refl, ap, ◌∙◌, inl, inr, arith}
 use Rattle.std.proofs.lemmas.Bool.{cases_lt}
 use Rattle.std.proofs.lemmas.Bool.Decides.{nat_tests}
 use Rattle.ow_base.specs.Entries.{leaf_word}
-use Rattle.ow_base.specs.World.{page_count, started_page_count}
+use Rattle.ow_base.specs.World.{page_count}
 use Rattle.ow_base.specs.declared.worlds.Load.{Load}
 use Rattle.ow_base.specs.declared.worlds.Program.{Program}
 use Rattle.record_layouts.specs.Unix.{is_within}
 use Rattle.record_layouts.specs.Held.{Held, Records}
 use Rattle.record_layouts.specs.Pages.{claim_of}
-use Rattle.kernel_traps.specs.Boot.{IsBootable, IsLoadable, program_in}
-use Rattle.kernel_traps.specs.BootPages.{pages_before, with_entry, with_frame_words, with_leaves, with_pages, with_start, with_starts, with_tables}
+use Rattle.kernel_traps.specs.Boot.{IsBootable, program_in}
+use Rattle.kernel_traps.specs.BootPages.{pages_before, with_frame_words, with_leaves, with_start, with_starts}
 use Rattle.kernel_traps.specs.BootTables.{HasTables, low_rights}
 use Rattle.kernel_traps.proofs.BootPages.{pages_more, pages_rise, start_loadable}
 

@@ -1,34 +1,29 @@
 -- A kernel that has booted stands for the state that its load begins with.
-use Rattle.std.proofs.Common.{◌≡◌, ◌≢◌, ℕ, zero, suc, ◌+◌, ◌-◌, ◌*◌, ◌/◌, ◌%◌, ◌^◌, ◌<◌, ◌≤◌, Bool, true, false, nat_lt, nat_le, ◌==◌, ◌&&◌, ◌||◌, if◌then◌else◌, List, [], ◌∷◌, length, map, replicate, slice_get, Option, Some, None, option_and_then, is_some, refl, sym, ap, subst, ◌∙◌, inl, inr, arith}
+use Rattle.std.proofs.Common.{◌≡◌, ℕ, zero, suc, ◌+◌, ◌-◌, ◌%◌, ◌^◌, ◌<◌, ◌≤◌, true, false, nat_le, ◌==◌, List, [], length, map, replicate, slice_get, Option, Some, None, option_and_then, refl, sym, ap, subst, ◌∙◌, inl, inr, arith}
 use Rattle.std.proofs.lemmas.Bool.{cases_Bool, cases_lt}
 use Rattle.std.proofs.lemmas.Bool.Decides.{nat_tests}
 use Rattle.std.proofs.lemmas.Option.{slice_get_past}
 use Rattle.std.proofs.Math.Nat.{zero-div}
 use Rattle.ow_base.specs.Sv32.{WordMap}
-use Rattle.ow_base.specs.World.{page_count}
 use Rattle.ow_base.specs.Words.{bits}
 use Rattle.ow_base.specs.declared.worlds.Load.{Load}
 use Rattle.ow_base.specs.declared.worlds.Program.{Program}
 use Rattle.ow_base.specs.declared.worlds.Start.{Start as Started}
 use Rattle.record_layouts.specs.declared.head.HeadRec.{HeadRec}
 use Rattle.record_layouts.specs.declared.proc.ProcRec.{ProcRec}
-use Rattle.record_layouts.specs.declared.sig.SigRec.{SigRec}
-use Rattle.record_layouts.specs.declared.term.TermRec.{TermRec}
-use Rattle.record_layouts.specs.Choice.{least_from}
-use Rattle.record_layouts.specs.Decode.{InKernel, call_of, decodes, description_by, descriptor_of, ended_in, ended_of, handlers_of, is_ended_as, is_number, is_pending, last_by, next_by, pid_in, process_at, process_by, process_in, process_of, processes_of, slot_by, status_by, terminal_by, unix_of}
+use Rattle.record_layouts.specs.Decode.{InKernel, decodes, description_by, descriptor_of, ended_of, handlers_of, is_ended_as, is_number, is_pending, last_by, next_by, pid_in, process_at, process_in, process_of, processes_of, slot_by, status_by, terminal_by, unix_of}
 use Rattle.record_layouts.specs.Held.{Records}
 use Rattle.record_layouts.specs.Pages.{is_mapped, pages_of}
 use Rattle.record_layouts.specs.Spelling.{lies_between}
-use Rattle.record_layouts.specs.Unix.{AtKernel, Description, OnTty, Process, in_use, is_among, is_named, is_named_by, silent_terminal, start_of, started_as, started_description, started_descriptors, started_pages, started_process}
-use Rattle.process_table.specs.Least.{IsLeast, NonePasses}
+use Rattle.record_layouts.specs.Unix.{AtKernel, OnTty, Process, in_use, is_among, is_named, is_named_by, silent_terminal, start_of, started_as, started_description, started_descriptors, started_pages, started_process}
 use Rattle.process_table.proofs.Least.{least_found, least_none}
 use Rattle.kernel_traps.specs.Boot.{IsBootable, program_in}
 use Rattle.kernel_traps.specs.BootPages.{pages_before}
-use Rattle.kernel_traps.specs.BootRecords.{booted_description, booted_exit, booted_head, booted_signals, description_for, started_descs, started_record}
+use Rattle.kernel_traps.specs.BootRecords.{booted_description, booted_exit, booted_signals, description_for, started_descs, started_record}
 use Rattle.kernel_traps.specs.BootState.{IsBooted}
 use Rattle.kernel_traps.specs.BootTables.{HasWords}
 use Rattle.kernel_traps.proofs.BootFrames.{is_mapped_there, pages_there}
-use Rattle.kernel_traps.proofs.BootNumbers.{process_there, slot_found, slot_live, slot_none, state_small}
+use Rattle.kernel_traps.proofs.BootNumbers.{process_there, slot_live, slot_none, state_small}
 use Rattle.kernel_traps.proofs.BootPages.{start_loadable, start_there}
 
 -- a process with a descriptor that names the description is among these, or none is

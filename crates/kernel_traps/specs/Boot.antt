@@ -1,5 +1,5 @@
 -- What a load must be so that a machine can start with it.
-use Rattle.std.specs.Prelude.{ℕ, ◌+◌, ◌<◌, ◌≤◌, List, length, All, slice_get, Option, option_and_then}
+use Rattle.std.specs.Prelude.{ℕ, ◌<◌, ◌≤◌, List, length, All, slice_get, Option, option_and_then}
 use Rattle.ow_base.specs.World.{start_pages}
 use Rattle.ow_base.specs.declared.worlds.Load.{Load}
 use Rattle.ow_base.specs.declared.worlds.Program.{Program}

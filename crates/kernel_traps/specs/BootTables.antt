@@ -1,5 +1,5 @@
 -- What holds of the tables and the owners of a program that has started in a slot.
-use Rattle.std.specs.Prelude.{◌≡◌, ◌≢◌, ℕ, ◌+◌, ◌*◌, ◌<◌, ◌≤◌, false, nat_lt, if◌then◌else◌, Some, slice_index}
+use Rattle.std.specs.Prelude.{◌≡◌, ◌≢◌, ℕ, ◌+◌, ◌*◌, ◌<◌, false, nat_lt, if◌then◌else◌, Some, slice_index}
 use Rattle.ow_base.specs.Entries.{leaf_word, pointer_word}
 use Rattle.ow_base.specs.Sv32.{WordMap}
 use Rattle.ow_base.specs.World.{page_count}

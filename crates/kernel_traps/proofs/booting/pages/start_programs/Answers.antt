@@ -1,5 +1,4 @@
-use Rattle.std.proofs.Common.{◌≡◌, ℕ, ◌<◌, ◌+◌, List, length, refl, sym, ap, ◌∙◌, subst, arith}
-use Rattle.ow_base.specs.declared.worlds.Start.{Start as Started}
+use Rattle.std.proofs.Common.{refl, sym, ap, ◌∙◌}
 use Rattle.record_layouts.specs.Held.{Held}
 use Rattle.ow_plant.specs.State.{PlantState}
 use Rattle.intent_store.specs.Live.{held_of}

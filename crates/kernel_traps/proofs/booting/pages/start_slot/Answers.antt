@@ -1,4 +1,4 @@
-use Rattle.std.proofs.Common.{◌≡◌, ℕ, ◌+◌, ap, ◌∙◌, arith}
+use Rattle.std.proofs.Common.{◌≡◌, ◌+◌, ap, ◌∙◌, arith}
 use Rattle.ow_base.specs.World.{page_count}
 use Rattle.ow_base.specs.declared.machine.Shape.{Shape}
 use Rattle.kernel_traps.proofs.BootPages.{pages_fit, pages_more, start_there}

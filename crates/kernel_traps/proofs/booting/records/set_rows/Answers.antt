@@ -1,4 +1,4 @@
-use Rattle.std.proofs.Common.{ℕ, Option, [], ◌∷◌, ◌+◌, refl, sym, ap, ◌∙◌}
+use Rattle.std.proofs.Common.{ℕ, Option, [], ◌∷◌, sym, ap, ◌∙◌}
 use Rattle.record_layouts.specs.Held.{Held, patched}
 use Rattle.record_layouts.specs.declared.patch.AnyRec.TheVariants as any
 use Rattle.record_layouts.specs.declared.places.RecordId.TheVariants as id

@@ -1,4 +1,4 @@
-use Rattle.std.proofs.Common.{ℕ, ◌<◌, ◌≤◌, ◌+◌, arith}
+use Rattle.std.proofs.Common.{ℕ, ◌<◌, ◌+◌, arith}
 use Rattle.phys_memory.specs.Memory.{MemoryParts, IsSized, frame_count}
 use Rattle.phys_memory.proofs.Words.{frame_count-sized}
 use Rattle.kernel_traps.proofs.BootStores.{word_boots, word_set}

@@ -1,4 +1,3 @@
-use Rattle.std.proofs.Common.{[], ◌∷◌}
 use Rattle.record_layouts.specs.Overlay.{WordRange}
 use Rattle.record_layouts.specs.Seam.{Spells}
 use Rattle.record_layouts.specs.declared.patch.PatchItem.{PatchItem}
