@@ -12,3 +12,4 @@ pub mod BootNumbers
 pub mod BootFrames
 pub mod BootUnix
 pub mod BootSound
+pub mod BootWorlds

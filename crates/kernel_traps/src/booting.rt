@@ -10,9 +10,12 @@ ghost use Rattle.kernel_traps.specs.BootRecords.{with_booted};
 ghost use Rattle.kernel_traps.specs.BootStores.{HasNoneAtBoot, IsBooting};
 ghost use Rattle.kernel_traps.specs.Turning.{IsSameMachine};
 
+mod laws;
 mod pages;
 mod records;
 mod stores;
+
+pub use laws::worlds_can_boot;
 
 use ow_base::Load;
 use ow_plant::Plant;

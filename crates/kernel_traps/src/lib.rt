@@ -7,5 +7,5 @@ mod ending;
 mod services;
 mod turns;
 
-pub use booting::boot;
+pub use booting::{boot, worlds_can_boot};
 pub use turns::Turn;
