@@ -36,7 +36,8 @@ have_all : (r : Records) (slot first count : ℕ) (process : _) → ((number : �
 unfolding have_frames
 have_all r slot first zero process each = refl
 have_all r slot first (suc count) process each =
-    let here : is_some (frame_of r slot process first) ≡ true = subst (λ (page : ℕ). is_some (frame_of r slot process page) ≡ true) (omega arith) (each 0 (omega arith)) in
+    let here : is_some (frame_of r slot process first) ≡ true =
+    subst (λ (page : ℕ). is_some (frame_of r slot process page) ≡ true) (omega arith) (each 0 (omega arith)) in
     rw here (have_all r slot (first + 1) count process (λ number few.
     subst (λ (page : ℕ). is_some (frame_of r slot process page) ≡ true) (omega arith) (each (number + 1) (omega arith))))
 
@@ -279,7 +280,8 @@ module _ (slot : ℕ) (program : Program) (loadable : IsLoadable program) where
           (frame_high number (omega arith)) (has.stack number (a % 4096 / 4) (omega arith) (omega arith))
           ∙ zero_byte (a % 4096 % 4)
 
-      byte_behind : (a : ℕ) → 65536 + 4096 * page_count program.code + 4096 * page_count program.values ≤ a → byte_at a ≡ started_byte program.code program.values a
+      byte_behind : (a : ℕ) → 65536 + 4096 * page_count program.code + 4096 * page_count program.values ≤ a
+          → byte_at a ≡ started_byte program.code program.values a
       byte_behind a low = elim (cases_Bool (is_within 0x7fffc 4 (a / 4096))) [
         | inl within ↦ byte_of_stack a within ∙ sym (zero_behind a low)
         | inr out ↦ byte_of_none a (no_frame (a / 4096) (grind (arith, nat_tests)) out) ∙ sym (zero_behind a low)

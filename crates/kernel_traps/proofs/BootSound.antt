@@ -77,7 +77,8 @@ module _ (r : Records) (load : Load) (is : IsBootable load) (b : IsBooted r load
   }
 
 -- a device on which nothing was written is as its record says
-silent_sound : (r : Records) (tty room : ℕ) (device : Device) → device ≡ silent_device room → ShowsScreen r tty blank_screen → IsOfDevice r tty device (silent_record tty)
+silent_sound : (r : Records) (tty room : ℕ) (device : Device) → device ≡ silent_device room → ShowsScreen r tty blank_screen
+    → IsOfDevice r tty device (silent_record tty)
 unfolding screen_of
 silent_sound r tty room device silent shown = rw silent (record { counted = refl; base = omega arith; rows = shown; display = refl })
 
@@ -142,7 +143,8 @@ module _ (load : Load) (old new : PlantState) (is : IsBootable load) (ready : Is
   are_terminals = record {
     records = λ tty low.
         rw (is_booted.terms tty low)
-        (silent_sound (records_held new) tty (16 * new.shape.budget) (tty_of new tty) (device tty) (blank_shows (is_blank (records_held new) load is is_booted tty low)));
+        (silent_sound (records_held new) tty (16 * new.shape.budget) (tty_of new tty) (device tty) (blank_shows (is_blank
+            (records_held new) load is is_booted tty low)));
     bytes = λ tty low. silent_bytes (tty_of new tty) new.steps new.shape.budget (device tty);
   }
 

@@ -100,7 +100,8 @@ module _ {Rest : Type 0} (h : Held Rest) (slot frame : ℕ) (program : Program) 
   unfolding started with_leaves with_frame_words
   high_clean word out = grind (arith, nat_tests, clean 2 word)
 
-  pub has_tables : HasTables (with_start h slot frame (Some program)).records slot frame (page_count program.code) (page_count program.code + page_count program.values)
+  pub has_tables : HasTables (with_start h slot frame (Some program)).records slot frame (page_count program.code)
+      (page_count program.code + page_count program.values)
   unfolding started
   has_tables = record {
     to_low = to_low;

@@ -67,7 +67,8 @@ module _ {Rest : Type 0} (h : Held Rest) (slot frame : ℕ) where
         (word_behind _ frame program.code (129 + (frame + page_count program.code + k)) w small (omega arith)
         ∙ rw place (blank (page_count program.code + k) w (omega arith) small));
     stack = λ k w few small.
-        let place : frame + (page_count program.code + page_count program.values) + k ≡ frame + (page_count program.code + page_count program.values + k) = omega arith in
+        let place : frame + (page_count program.code + page_count program.values) + k ≡ frame + (page_count program.code + page_count program.values + k) =
+        omega arith in
         behind_start program (129 + (frame + (page_count program.code + page_count program.values) + k)) w small (omega arith)
         ∙ rw place (blank (page_count program.code + page_count program.values + k) w (omega arith) small);
   }

@@ -13,7 +13,8 @@ pub loop-index-init : goal.loop-index-init
 loop-index-init c =
     let h = held_of c.args.plant.now in
     record {
-      held = ap (λ (f : ℕ → Option DescRec). record h { records = record h.records { descs = f } }) (sym (set_none 0 (booted_description c.args.load.now) h.records.descs));
+      held = ap (λ (f : ℕ → Option DescRec). record h { records = record h.records { descs = f } }) (sym (set_none 0
+          (booted_description c.args.load.now) h.records.descs));
       booting = c.requires.booting;
     }
 
@@ -21,7 +22,8 @@ pub loop-index-preserved : goal.loop-index-preserved
 loop-index-preserved c = record {
   held =
       c.set_record.ensures.held
-      ∙ ap (λ (h : Held PlantState). patched (record { id = id.Desc c.loop-index.index; rec = any.Desc c.description_record.result } ∷ []) h) c.loop-index.invariant.held
+      ∙ ap (λ (h : Held PlantState). patched (record { id = id.Desc c.loop-index.index; rec = any.Desc c.description_record.result } ∷ []) h)
+        c.loop-index.invariant.held
       ∙ description_more (held_of c.args.plant.now) c.args.load.now c.loop-index.index c.description_record.result c.description_record.ensures.is;
   booting = c.set_record.ensures.booting;
 }

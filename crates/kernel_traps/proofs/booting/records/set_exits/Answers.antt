@@ -13,7 +13,8 @@ pub loop-before-init : goal.loop-before-init
 loop-before-init c =
     let h = held_of c.args.plant.now in
     record {
-      held = ap (λ (f : ℕ → Option ExitRec). record h { records = record h.records { exits = f } }) (sym (set_none 1 (booted_exit c.args.load.now) h.records.exits));
+      held = ap (λ (f : ℕ → Option ExitRec). record h { records = record h.records { exits = f } }) (sym (set_none 1
+          (booted_exit c.args.load.now) h.records.exits));
       booting = c.requires.booting;
     }
 
@@ -21,7 +22,8 @@ pub loop-before-preserved : goal.loop-before-preserved
 loop-before-preserved c = record {
   held =
       c.set_record.ensures.held
-      ∙ ap (λ (h : Held PlantState). patched (record { id = id.Exit (c.loop-before.before + 1); rec = any.Exit c.exit_record.result } ∷ []) h) c.loop-before.invariant.held
+      ∙ ap (λ (h : Held PlantState). patched (record { id = id.Exit (c.loop-before.before + 1); rec = any.Exit c.exit_record.result } ∷ []) h)
+        c.loop-before.invariant.held
       ∙ exit_more (held_of c.args.plant.now) c.args.load.now c.loop-before.before c.exit_record.result c.exit_record.ensures.is;
   booting = c.set_record.ensures.booting;
 }

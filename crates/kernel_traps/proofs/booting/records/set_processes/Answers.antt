@@ -13,7 +13,8 @@ pub loop-slot-init : goal.loop-slot-init
 loop-slot-init c =
     let h = held_of c.args.plant.now in
     record {
-      held = ap (λ (f : ℕ → Option ProcRec). record h { records = record h.records { procs = f } }) (sym (set_none 0 (booted_process c.args.load.now) h.records.procs));
+      held = ap (λ (f : ℕ → Option ProcRec). record h { records = record h.records { procs = f } }) (sym (set_none 0
+          (booted_process c.args.load.now) h.records.procs));
       booting = c.requires.booting;
     }
 

@@ -13,7 +13,8 @@ pub loop-slot-init : goal.loop-slot-init
 loop-slot-init c =
     let h = held_of c.args.plant.now in
     record {
-      held = ap (λ (f : ℕ → Option SigRec). record h { records = record h.records { sigs = f } }) (sym (set_none 0 (booted_signals c.args.load.now) h.records.sigs));
+      held = ap (λ (f : ℕ → Option SigRec). record h { records = record h.records { sigs = f } }) (sym (set_none 0
+          (booted_signals c.args.load.now) h.records.sigs));
       booting = c.requires.booting;
     }
 
