@@ -1,6 +1,6 @@
 -- The lemmas of the crate: bytes that are put and how a service is done; a trap that begins, and records and terminals
 -- that are sound once it is carried out; the words of a kernel that runs, and a process in user mode, whose stores are
--- seen by itself alone.
+-- seen by itself alone; and what boot leaves.
 pub mod Puts
 pub mod Done
 pub mod Entering
@@ -16,3 +16,15 @@ pub mod Isolated
 pub mod Stepping
 pub mod UserTurns
 pub mod Refusals
+pub mod BootStores
+pub mod BootRecords
+pub mod BootPages
+pub mod BootReady
+pub mod BootTables
+pub mod BootWords
+pub mod BootHeld
+pub mod BootNumbers
+pub mod BootFrames
+pub mod BootUnix
+pub mod BootSound
+pub mod BootWorlds

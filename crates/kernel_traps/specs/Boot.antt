@@ -1,7 +1,5 @@
 -- What a load must be so that a machine can start with it.
-use Rattle.std.specs.Prelude.{ℕ, ◌+◌, ◌<◌, ◌≤◌, List, length, All, slice_get, Option, option_and_then}
-use Rattle.ow_plant.specs.State.{PlantState}
-use Rattle.ow_plant.specs.declared.points.PanicPoint.{PanicPoint}
+use Rattle.std.specs.Prelude.{ℕ, ◌<◌, ◌≤◌, List, length, All, slice_get, Option, option_and_then}
 use Rattle.ow_base.specs.World.{start_pages}
 use Rattle.ow_base.specs.declared.worlds.Load.{Load}
 use Rattle.ow_base.specs.declared.worlds.Program.{Program}
@@ -31,7 +29,3 @@ pub record IsBootable (load : Load) : Type 0 where
 -- the program that starts in a slot
 unfoldable pub program_in : Load → (slot : ℕ) → Option Program
 program_in load slot = option_and_then (λ (start : Started). slice_get load.programs start.program) (slice_get load.starts slot)
-
--- no panic comes at boot, which is trap 0
-pub record HasNoneAtBoot (s : PlantState) : Type 0 where
-  pub from_one : All (λ (p : PanicPoint). 1 ≤ p.trap) s.points

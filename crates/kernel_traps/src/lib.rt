@@ -2,9 +2,11 @@
 //! byte before it goes out, and the trap ends with the last of its records.
 #![tactic(auto)]
 
+mod booting;
 mod ending;
 mod services;
 mod turns;
 mod user;
 
+pub use booting::{boot, worlds_can_boot};
 pub use turns::Turn;

@@ -1,0 +1,151 @@
+-- The records of a kernel that has booted.
+use Rattle.std.specs.Prelude.{ℕ, ◌+◌, ◌-◌, nat_lt, nat_le, if◌then◌else◌, List, [], ◌∷◌, length, replicate, slice_get, Option, Some, None}
+use Rattle.ow_base.specs.Screen.{blank_row}
+use Rattle.ow_base.specs.World.{page_count}
+use Rattle.ow_base.specs.declared.worlds.Load.{Load}
+use Rattle.ow_base.specs.declared.worlds.Program.{Program}
+use Rattle.ow_base.specs.declared.worlds.Start.{Start as Started}
+use Rattle.record_layouts.specs.Unix.{is_within, started_bank}
+use Rattle.record_layouts.specs.Held.{Held}
+use Rattle.record_layouts.specs.declared.head.HeadRec.{HeadRec}
+use Rattle.record_layouts.specs.declared.proc.ProcRec.{ProcRec}
+use Rattle.record_layouts.specs.declared.sig.SigRec.{SigRec}
+use Rattle.record_layouts.specs.declared.desc.DescRec.{DescRec}
+use Rattle.record_layouts.specs.declared.file.FileRec.{FileRec}
+use Rattle.record_layouts.specs.declared.cache.CacheRec.{CacheRec}
+use Rattle.record_layouts.specs.declared.term.TermRec.{TermRec}
+use Rattle.record_layouts.specs.declared.row.RowRec.{RowRec}
+use Rattle.record_layouts.specs.declared.exit.ExitRec.{ExitRec}
+use Rattle.process_table.specs.Patches.{blank_bank}
+use Rattle.kernel_traps.specs.Boot.{program_in}
+
+-- no trap is served, no process was the last one, and the next pid is the one behind the starts
+abbrev pub booted_head : Load → HeadRec
+booted_head load = record { layout = 1; served = 0; last = 0; next = length load.starts + 1; hand = 0 }
+
+-- a slot without a process
+abbrev pub free_process : ProcRec
+free_process = record {
+  state = 0;
+  pid = 0;
+  parent = 0;
+  call = 0;
+  done = 0;
+  code_pages = 0;
+  data_pages = 0;
+  brk = 0;
+  procedure = 0;
+  mask = 0;
+  flags = 0;
+  status = 0;
+  descs = replicate 8 0;
+  regs = replicate 31 0;
+  pc = 0;
+  handler_save = blank_bank;
+  crash_save = blank_bank;
+}
+
+-- the descriptors 0, 1 and 2 name one description, by its number and one
+abbrev pub started_descs : (word : ℕ) → List ℕ
+started_descs word = word ∷ word ∷ word ∷ 0 ∷ 0 ∷ 0 ∷ 0 ∷ 0 ∷ []
+
+-- the process of a program that starts in a slot
+abbrev pub started_record : (slot : ℕ) → Program → ProcRec
+started_record slot program = record {
+  state = 1;
+  pid = slot + 1;
+  parent = 0;
+  call = 0;
+  done = 0;
+  code_pages = page_count program.code;
+  data_pages = page_count program.values;
+  brk = 0;
+  procedure = 0;
+  mask = 0;
+  flags = 0;
+  status = 0;
+  descs = started_descs (slot + 1);
+  regs = started_bank.regs;
+  pc = started_bank.pc;
+  handler_save = blank_bank;
+  crash_save = blank_bank;
+}
+
+abbrev pub process_for : (slot : ℕ) → Option Program → ProcRec
+process_for slot (Some program) = started_record slot program
+process_for slot None = free_process
+
+unfoldable pub booted_process : Load → (slot : ℕ) → ProcRec
+booted_process load slot = process_for slot (program_in load slot)
+
+-- no signal is pending, and there is no handler
+unfoldable pub booted_signals : Load → (slot : ℕ) → SigRec
+booted_signals load slot = record {
+  pid = if nat_lt slot (length load.starts) then slot + 1 else 0;
+  pending = 0;
+  handlers = replicate 15 0;
+}
+
+-- the description of a start is open on its terminal, to read and to write
+abbrev pub description_for : Option Started → DescRec
+description_for (Some start) = record { object = 2; index = start.tty; mode = 3; offset = 0 }
+description_for None = record { object = 0; index = 0; mode = 0; offset = 0 }
+
+unfoldable pub booted_description : Load → (index : ℕ) → DescRec
+booted_description load index = description_for (slice_get load.starts index)
+
+abbrev pub no_file : FileRec
+no_file = record { state = 0; name_len = 0; name = replicate 24 0; size = 0; kept = 0; sectors = replicate 64 0 }
+
+abbrev pub empty_cache : CacheRec
+empty_cache = record { state = 0; file = 0; page = 0 }
+
+-- nothing is written on a terminal
+abbrev pub silent_record : (tty : ℕ) → TermRec
+silent_record tty = record { tty = tty; written = 0; last = 0; consumed = 0; top = 0; row = 0; col = 0; base = 0 }
+
+abbrev pub blank_row_record : (place : ℕ) → RowRec
+blank_row_record place = record { place = place; text = blank_row }
+
+-- the pids of the starts are live, each in the slot of its start
+unfoldable pub booted_exit : Load → (pid : ℕ) → ExitRec
+booted_exit load pid = if nat_le pid (length load.starts) then record { state = 1; value = pid - 1 } else record { state = 0; value = 0 }
+
+-- so many records of a kind are set, from a first one on
+unfoldable pub set_from : {A : Type 0} → (first count : ℕ) → (value : ℕ → A) → (ℕ → Option A) → ℕ → Option A
+set_from first count value old i = if is_within first count i then Some (value i) else old i
+
+module _ {Rest : Type 0} (h : Held Rest) where
+  abbrev pub with_processes : Load → (count : ℕ) → Held Rest
+  with_processes load count = record h { records = record h.records { procs = set_from 0 count (booted_process load) h.records.procs } }
+
+  abbrev pub with_signals : Load → (count : ℕ) → Held Rest
+  with_signals load count = record h { records = record h.records { sigs = set_from 0 count (booted_signals load) h.records.sigs } }
+
+  abbrev pub with_descriptions : Load → (count : ℕ) → Held Rest
+  with_descriptions load count = record h { records = record h.records { descs = set_from 0 count (booted_description load) h.records.descs } }
+
+  abbrev pub with_exits : Load → (count : ℕ) → Held Rest
+  with_exits load count = record h { records = record h.records { exits = set_from 1 count (booted_exit load) h.records.exits } }
+
+  abbrev pub with_no_files : (count : ℕ) → Held Rest
+  with_no_files count = record h { records = record h.records { files = set_from 0 count (λ i. no_file) h.records.files } }
+
+  abbrev pub with_empty_caches : (count : ℕ) → Held Rest
+  with_empty_caches count = record h { records = record h.records { caches = set_from 0 count (λ i. empty_cache) h.records.caches } }
+
+  abbrev pub with_silent_terminals : (count : ℕ) → Held Rest
+  with_silent_terminals count = record h { records = record h.records { terms = set_from 0 count silent_record h.records.terms } }
+
+  abbrev pub with_blank_rows : (count : ℕ) → Held Rest
+  with_blank_rows count = record h { records = record h.records { rows = set_from 0 count blank_row_record h.records.rows } }
+
+  abbrev pub with_head : Load → Held Rest
+  with_head load = record h { records = record h.records { head = Some (booted_head load) } }
+
+-- all records are set
+abbrev pub with_booted : {Rest : Type 0} → Held Rest → Load → Held Rest
+with_booted h load =
+    let processes = with_exits (with_descriptions (with_signals (with_processes h load 16) load 16) load 32) load 256 in
+    let devices = with_blank_rows (with_silent_terminals (with_empty_caches (with_no_files processes 32) 64) 2) 48 in
+    with_head devices load

@@ -1,0 +1,395 @@
+//! The records that a kernel boots with.
+ghost use Rattle.std.specs.Prelude.{◌≡◌, ◌<◌, ◌≤◌, Some, None, IfSome, IfNone, length, slice_get};
+ghost use Rattle.ow_base.specs.World.{page_count};
+ghost use Rattle.record_layouts.specs.Head.{FitsHead};
+ghost use Rattle.record_layouts.specs.Proc.{FitsProc};
+ghost use Rattle.record_layouts.specs.Sig.{FitsSig};
+ghost use Rattle.record_layouts.specs.Desc.{FitsDesc};
+ghost use Rattle.record_layouts.specs.Exit.{FitsExit};
+ghost use Rattle.record_layouts.specs.File.{FitsFile};
+ghost use Rattle.record_layouts.specs.Cache.{FitsCache};
+ghost use Rattle.record_layouts.specs.Term.{FitsTerm};
+ghost use Rattle.record_layouts.specs.Row.{FitsRow};
+ghost use Rattle.process_table.specs.Patches.{blank_bank as empty_bank};
+ghost use Rattle.intent_store.specs.Live.{held_of};
+ghost use Rattle.kernel_traps.specs.Boot.{IsBootable, IsLoadable, program_in};
+ghost use Rattle.kernel_traps.specs.BootStores.{IsBooting};
+ghost use Rattle.kernel_traps.specs.BootRecords.{booted_description, booted_exit, booted_head, booted_process, booted_signals, started_record as record_of_start, free_process, no_file as unused_file, empty_cache as empty_entry, silent_record, blank_row_record};
+ghost use Rattle.kernel_traps.specs.BootRecords.{with_booted, with_descriptions, with_empty_caches, with_exits, with_head, with_no_files, with_processes, with_blank_rows, with_signals, with_silent_terminals};
+
+use super::stores::set_record;
+use ow_base::{Bank, Load, Program, Regs};
+use ow_plant::Plant;
+use record_layouts::{
+    AnyRec, CacheRec, DescRec, ExitRec, FileRec, HeadRec, ProcRec, RecordId, RowRec, SigRec,
+    TermRec,
+};
+
+// The words of a page.
+const PAGE_WORDS: usize = 1024;
+
+// The address of the code.
+const CODE_START: u32 = 0x10000;
+
+// The stack pointer that a program starts with, and its register.
+const STACK_START: u32 = 0x7fff_fff0;
+
+const STACK_POINTER: u32 = 2;
+
+// What a blank row has in each place.
+const BLANK: u8 = 32;
+
+// How many records of each kind there are.
+const SLOTS: u32 = 16;
+
+const DESCRIPTIONS: u32 = 32;
+
+const PIDS: u32 = 256;
+
+const FILES: u32 = 32;
+
+const ENTRIES: u32 = 64;
+
+const TERMINALS: u32 = 2;
+
+const ROWS: u32 = 48;
+
+/// How many pages so many words need.
+pub(crate) fn pages_for(words: &[u32]) -> u32
+    requires { length words.now ≤ 65536 }
+    ensures { result ≡ page_count words.now }
+{
+    words.len().div_ceil(PAGE_WORDS) as u32
+}
+
+/// The program that starts in a slot.
+#[tactic(auto, unfolding(crate::specs::Boot::program_in))]
+pub(crate) fn program_at(load: &Load, slot: u32) -> Option<&Program>
+    requires { IsBootable load.now }
+    ensures some { IfSome result (λ program. program_in load.now slot ≡ Some program.now) }
+    ensures loadable { IfSome result (λ program. IsLoadable program.now) }
+    ensures none { IfNone result (program_in load.now slot ≡ None) }
+{
+    let start = load.starts.items().get(slot as usize)?;
+    Some(&load.programs.items()[start.program as usize])
+}
+
+// All registers and the pc are 0.
+fn blank_bank() -> Bank
+    ensures { result ≡ empty_bank }
+{
+    Bank {
+        pc: 0,
+        regs: Regs::new(),
+    }
+}
+
+fn head_record(load: &Load) -> HeadRec
+    requires { IsBootable load.now }
+    ensures is { result ≡ booted_head load.now }
+    ensures fits { FitsHead result }
+{
+    HeadRec {
+        layout: 1,
+        served: 0,
+        last: 0,
+        next: load.starts.items().len() as u32 + 1,
+        hand: 0,
+    }
+}
+
+// A slot without a process.
+fn free_record() -> ProcRec
+    ensures is { result ≡ free_process }
+    ensures fits { FitsProc result }
+{
+    ProcRec {
+        state: 0,
+        pid: 0,
+        parent: 0,
+        call: 0,
+        done: 0,
+        code_pages: 0,
+        data_pages: 0,
+        brk: 0,
+        procedure: 0,
+        mask: 0,
+        flags: 0,
+        status: 0,
+        descs: [0; 8],
+        regs: Regs::new(),
+        pc: 0,
+        handler_save: blank_bank(),
+        crash_save: blank_bank(),
+    }
+}
+
+// The process of a program that starts in a slot: it is in user mode where its code begins, and its descriptors 0, 1 and
+// 2 are the description of the same number as the slot.
+fn started_record(slot: u32, program: &Program) -> ProcRec
+    requires slot { slot < 16 }
+    requires program { IsLoadable program.now }
+    ensures is { result ≡ record_of_start slot program.now }
+    ensures fits { FitsProc result }
+{
+    let mut regs = Regs::new();
+    regs.set(STACK_POINTER, STACK_START);
+    let description = slot + 1;
+    ProcRec {
+        state: 1,
+        pid: slot + 1,
+        parent: 0,
+        call: 0,
+        done: 0,
+        code_pages: pages_for(program.code.items()),
+        data_pages: pages_for(program.values.items()),
+        brk: 0,
+        procedure: 0,
+        mask: 0,
+        flags: 0,
+        status: 0,
+        descs: [description, description, description, 0, 0, 0, 0, 0],
+        regs,
+        pc: CODE_START,
+        handler_save: blank_bank(),
+        crash_save: blank_bank(),
+    }
+}
+
+// The process of a slot, if one starts in it.
+#[tactic(auto, unfolding(crate::specs::BootRecords::booted_process))]
+fn process_record(load: &Load, slot: u32) -> ProcRec
+    requires load { IsBootable load.now }
+    requires slot { slot < 16 }
+    ensures is { result ≡ booted_process load.now slot }
+    ensures fits { FitsProc result }
+{
+    match program_at(load, slot) {
+        Some(program) => started_record(slot, program),
+        None => free_record(),
+    }
+}
+
+// The signals of a slot: none is pending, and there is no handler.
+#[tactic(auto, unfolding(crate::specs::BootRecords::booted_signals))]
+fn signal_record(load: &Load, slot: u32) -> SigRec
+    requires load { IsBootable load.now }
+    requires slot { slot < 16 }
+    ensures is { result ≡ booted_signals load.now slot }
+    ensures fits { FitsSig result }
+{
+    let is_started = (slot as usize) < load.starts.items().len();
+    SigRec {
+        pid: if is_started { slot + 1 } else { 0 },
+        pending: 0,
+        handlers: [0; 15],
+    }
+}
+
+// The description of a start, which is open on its terminal, to read and to write.
+#[tactic(auto, unfolding(crate::specs::BootRecords::booted_description))]
+fn description_record(load: &Load, index: u32) -> DescRec
+    requires { IsBootable load.now }
+    ensures is { result ≡ booted_description load.now index }
+    ensures fits { FitsDesc result }
+{
+    match load.starts.items().get(index as usize) {
+        Some(start) => DescRec {
+            object: 2,
+            index: start.tty,
+            mode: 3,
+            offset: 0,
+        },
+        None => DescRec {
+            object: 0,
+            index: 0,
+            mode: 0,
+            offset: 0,
+        },
+    }
+}
+
+// What has become of a pid: those of the starts are live, each in its slot.
+#[tactic(auto, unfolding(crate::specs::BootRecords::booted_exit))]
+fn exit_record(load: &Load, pid: u32) -> ExitRec
+    requires load { IsBootable load.now }
+    requires pid { 1 ≤ pid }
+    ensures is { result ≡ booted_exit load.now pid }
+    ensures fits { FitsExit result }
+{
+    if pid as usize <= load.starts.items().len() {
+        ExitRec {
+            state: 1,
+            value: pid - 1,
+        }
+    } else {
+        ExitRec { state: 0, value: 0 }
+    }
+}
+
+// No file.
+fn no_file() -> FileRec
+    ensures is { result ≡ unused_file }
+    ensures fits { FitsFile result }
+{
+    FileRec {
+        state: 0,
+        name_len: 0,
+        name: [0; 24],
+        size: 0,
+        kept: 0,
+        sectors: [0; 64],
+    }
+}
+
+// An entry of the page cache that holds no page.
+fn empty_cache() -> CacheRec
+    ensures is { result ≡ empty_entry }
+    ensures fits { FitsCache result }
+{
+    CacheRec {
+        state: 0,
+        file: 0,
+        page: 0,
+    }
+}
+
+// A terminal on which nothing is written.
+fn silent_terminal(tty: u32) -> TermRec
+    requires { tty < 2 }
+    ensures is { result ≡ silent_record tty }
+    ensures fits { FitsTerm result }
+{
+    TermRec {
+        tty,
+        written: 0,
+        last: 0,
+        consumed: 0,
+        top: 0,
+        row: 0,
+        col: 0,
+        base: 0,
+    }
+}
+
+// A blank row.
+fn blank_row(place: u32) -> RowRec
+    requires { place < 48 }
+    ensures is { result ≡ blank_row_record place }
+    ensures fits { FitsRow result }
+{
+    RowRec {
+        place,
+        text: [BLANK; 80],
+    }
+}
+
+// Sets the record of each slot.
+fn set_processes(plant: &mut Plant, load: &Load)
+    requires booting { IsBooting plant.old }
+    requires load { IsBootable load.now }
+    ensures held { held_of plant.new ≡ with_processes (held_of plant.old) load.now 16 }
+    ensures booting { IsBooting plant.new }
+{
+    for slot in 0..SLOTS {
+        set_record(plant, RecordId::Proc(slot), &AnyRec::Proc(process_record(load, slot)));
+    }
+}
+
+// Sets the signals of each slot.
+fn set_signals(plant: &mut Plant, load: &Load)
+    requires booting { IsBooting plant.old }
+    requires load { IsBootable load.now }
+    ensures held { held_of plant.new ≡ with_signals (held_of plant.old) load.now 16 }
+    ensures booting { IsBooting plant.new }
+{
+    for slot in 0..SLOTS {
+        set_record(plant, RecordId::Sig(slot), &AnyRec::Sig(signal_record(load, slot)));
+    }
+}
+
+// Sets all descriptions.
+fn set_descriptions(plant: &mut Plant, load: &Load)
+    requires booting { IsBooting plant.old }
+    requires load { IsBootable load.now }
+    ensures held { held_of plant.new ≡ with_descriptions (held_of plant.old) load.now 32 }
+    ensures booting { IsBooting plant.new }
+{
+    for index in 0..DESCRIPTIONS {
+        set_record(plant, RecordId::Desc(index), &AnyRec::Desc(description_record(load, index)));
+    }
+}
+
+// Sets what has become of each pid.
+fn set_exits(plant: &mut Plant, load: &Load)
+    requires booting { IsBooting plant.old }
+    requires load { IsBootable load.now }
+    ensures held { held_of plant.new ≡ with_exits (held_of plant.old) load.now 256 }
+    ensures booting { IsBooting plant.new }
+{
+    for before in 0..PIDS {
+        set_record(plant, RecordId::Exit(before + 1), &AnyRec::Exit(exit_record(load, before + 1)));
+    }
+}
+
+// Sets all files: there is none.
+fn set_files(plant: &mut Plant)
+    requires booting { IsBooting plant.old }
+    ensures held { held_of plant.new ≡ with_no_files (held_of plant.old) 32 }
+    ensures booting { IsBooting plant.new }
+{
+    for index in 0..FILES {
+        set_record(plant, RecordId::File(index), &AnyRec::File(no_file()));
+    }
+}
+
+// Sets the entries of the page cache: each is empty.
+fn set_caches(plant: &mut Plant)
+    requires booting { IsBooting plant.old }
+    ensures held { held_of plant.new ≡ with_empty_caches (held_of plant.old) 64 }
+    ensures booting { IsBooting plant.new }
+{
+    for entry in 0..ENTRIES {
+        set_record(plant, RecordId::Cache(entry), &AnyRec::Cache(empty_cache()));
+    }
+}
+
+// Sets the terminals: nothing is written on them.
+fn set_terminals(plant: &mut Plant)
+    requires booting { IsBooting plant.old }
+    ensures held { held_of plant.new ≡ with_silent_terminals (held_of plant.old) 2 }
+    ensures booting { IsBooting plant.new }
+{
+    for tty in 0..TERMINALS {
+        set_record(plant, RecordId::Term(tty), &AnyRec::Term(silent_terminal(tty)));
+    }
+}
+
+// Sets the rows of both terminals: each is blank.
+fn set_rows(plant: &mut Plant)
+    requires booting { IsBooting plant.old }
+    ensures held { held_of plant.new ≡ with_blank_rows (held_of plant.old) 48 }
+    ensures booting { IsBooting plant.new }
+{
+    for place in 0..ROWS {
+        set_record(plant, RecordId::Row(place), &AnyRec::Row(blank_row(place)));
+    }
+}
+
+/// Sets all records.
+pub(crate) fn set_records(plant: &mut Plant, load: &Load)
+    requires booting { IsBooting plant.old }
+    requires load { IsBootable load.now }
+    ensures held { held_of plant.new ≡ with_booted (held_of plant.old) load.now }
+    ensures booting { IsBooting plant.new }
+{
+    set_processes(plant, load);
+    set_signals(plant, load);
+    set_descriptions(plant, load);
+    set_exits(plant, load);
+    set_files(plant);
+    set_caches(plant);
+    set_terminals(plant);
+    set_rows(plant);
+    set_record(plant, RecordId::Head, &AnyRec::Head(head_record(load)));
+}
