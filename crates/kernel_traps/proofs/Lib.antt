@@ -1,3 +1,4 @@
 pub mod Puts
 pub mod Done
 pub mod Entering
+pub mod Stays
