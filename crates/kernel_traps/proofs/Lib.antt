@@ -2,3 +2,4 @@ pub mod Puts
 pub mod Done
 pub mod Entering
 pub mod Stays
+pub mod Plans

@@ -5,3 +5,4 @@ pub mod Putting
 pub mod Carrying
 pub mod Ending
 pub mod Turning
+pub mod Traps
