@@ -1,5 +1,5 @@
 -- What is held once a write is carried out is what the call asked for.
-use Rattle.std.proofs.Common.{◌≡◌, ◌≢◌, ◌∙◌, ◌==◌, ◌+◌, ◌*◌, ◌/◌, ◌^◌, ◌-◌, ◌<◌, ◌≤◌, min, ℕ, zero, suc, List, [], ◌∷◌, ◌++◌, length, Option, Some, None, IfSome, refl, sym, ap, subst, arith}
+use Rattle.std.proofs.Common.{◌≡◌, ◌≢◌, ◌∙◌, ◌==◌, ◌+◌, ◌*◌, ◌/◌, ◌^◌, ◌-◌, ◌<◌, ◌≤◌, min, ℕ, zero, suc, List, [], ◌∷◌, ◌++◌, length, Option, Some, None, IfSome, refl, sym, ap, subst, arith, length-append}
 use Rattle.std.proofs.lemmas.Bool.Decides.{nat_tests}
 use Rattle.std.proofs.lemmas.Grind.{common_steps}
 use Rattle.ow_base.specs.Pages.{bytes_at}
@@ -20,7 +20,7 @@ use Rattle.kernel_traps.specs.Carrying.{IsCarriedOut, IsWritten, bytes_of}
 own_tape : (s : PlantState) (tty : ℕ) (bytes : List ℕ) → tty < 2 → tapes_of (with_puts s tty bytes) tty ≡ tapes_of s tty ++ bytes
 own_tape s zero bytes low = refl
 own_tape s (suc zero) bytes low = refl
-own_tape s (suc (suc n)) bytes low = omega arith
+own_tape s (suc (suc n)) bytes low = absurd (omega (arith, low))
 
 other_tape : (s : PlantState) (tty other : ℕ) (bytes : List ℕ) → tty < 2 → other ≢ tty → tapes_of (with_puts s tty bytes) other ≡ tapes_of s other
 other_tape s tty other bytes low apart = grind (arith, nat_tests, common_steps, apart)
@@ -39,9 +39,11 @@ tape_counted tape terminal counted = grind (arith, nat_tests, counted)
 told : (bytes tape : List ℕ) (before after : TermRec) → before.written ≡ length tape → length tape + length bytes < 2 ^ 32 → CountsBytes bytes before after
     → IsTold bytes tape (tape ++ bytes) before after
 told bytes tape before after counted small counts =
-    let now : after.written ≡ length (tape ++ bytes) = counts.written ∙ counted_is before.written bytes (omega (arith, counted)) ∙ omega (arith, counted) in
+    let long : length (tape ++ bytes) ≡ length tape + length bytes = length-append tape bytes in
+    let so_many : after.written ≡ before.written + length bytes = counts.written ∙ counted_is before.written bytes (omega (arith, counted, small)) in
+    let now : after.written ≡ length (tape ++ bytes) = omega (arith, counted, long, so_many) in
     record {
-      written = omega (arith, counted, now);
+      written = omega (arith, counted, so_many, small);
       consumed = counts.consumed;
       base = counts.base;
       decoded = tape_counted (tape ++ bytes) after now ∙ ap (λ (t : List ℕ). t ++ bytes) (sym (tape_counted tape before counted));

@@ -3,3 +3,4 @@ pub mod Done
 pub mod Entering
 pub mod Stays
 pub mod Plans
+pub mod TrapUnix
