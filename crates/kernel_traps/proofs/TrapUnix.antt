@@ -143,3 +143,65 @@ service_done b new slot steps process (service.TtyWrite tty from len patch) trap
         omega (arith, tape, bytes, doable.1.most, device.few, trap.counted, trap.budget, trap.most) in
     write_done b new slot tty from len patch.items.items process there low
     (told_by_device b tty ((records_held b).terms tty) low (trap.terminals.records tty low)) room is
+
+-- a trap that has ended
+same_machine : (s b new : PlantState) → IsSameMachine s b → IsCarrier b new → IsSameMachine s (left_trap new)
+same_machine s b new same is = record {
+  shape = is.shape ∙ same.shape;
+  points = is.points ∙ same.points;
+  live = is.live ∙ same.live;
+  history = is.history ∙ same.history;
+}
+
+made_by : (s b new : PlantState) (slot made : ℕ) (plan : Planned) (after : Unix) → b.in_user ≡ false → b.steps ≡ s.steps + made → b.traps ≡ s.traps + 1 → IsSameMachine s b
+    → ((done : PlantState) → IsCarriedOut b slot plan (held_of done)
+    → unix_of (records_held done) (words_of b.memory) (tapes_of done) InKernel (s.steps + made) (s.traps + 1) ≡ after)
+    → IsEnded b slot plan new → IsSound new → IsTrapMade s new after made
+made_by s b new slot made plan after kernel steps traps same law (done, out, left) sound =
+    let is : IsCarrier b done = carrier b done slot plan out in
+    let machine : IsSameMachine s (left_trap done) = same_machine s b done same is in
+    let unix : unix_at (left_trap done) ≡ after =
+        unix_left b done is kernel
+        ∙ (ap (λ (n : ℕ). unix_of (records_held done) (words_of b.memory) (tapes_of done) InKernel n b.traps) steps
+        ∙ (ap (λ (n : ℕ). unix_of (records_held done) (words_of b.memory) (tapes_of done) InKernel (s.steps + made) n) traps ∙ law done out)) in
+    record {
+      sound = sound;
+      unix = ap (λ (p : PlantState). unix_at p) left ∙ unix;
+      steps = ap (λ (p : PlantState). p.steps) left ∙ (is.steps ∙ steps);
+      traps = ap (λ (p : PlantState). p.traps) left ∙ (is.traps ∙ traps);
+      same = record {
+        shape = ap (λ (p : PlantState). p.shape) left ∙ machine.shape;
+        points = ap (λ (p : PlantState). p.points) left ∙ machine.points;
+        live = ap (λ (p : PlantState). p.live) left ∙ machine.live;
+        history = ap (λ (p : PlantState). p.history) left ∙ machine.history;
+      };
+    }
+
+pub one_step : (s : PlantState) → IsSound s → s.steps < s.shape.budget → (begun s).steps ≡ s.steps + 1
+one_step s sound left = omega (arith, sound.most, left)
+
+pub one_trap : (s : PlantState) → s.traps < 2 ^ 32 - 2 → (begun s).traps ≡ s.traps + 1
+one_trap s few = omega (arith, few)
+
+pub begun_same : (s : PlantState) → IsSameMachine s (begun s)
+begun_same s = record { shape = refl; points = refl; live = refl; history = refl }
+
+-- a trap of a process, which is a step
+pub trap_made : (s new : PlantState) (slot : ℕ) (process : ProcRec) (x : Service) (after : Unix) → IsSound s → s.steps < s.shape.budget → s.traps < 2 ^ 32 - 2
+    → (records_held s).procs slot ≡ Some process → IsDoable (records_held s) (words_of s.memory) slot x
+    → ((done : Records) (tapes : ℕ → List ℕ) → IsDone (records_held s) (words_of s.memory) (tapes_of s) slot process (plan_of x) done tapes
+    → unix_of done (words_of s.memory) tapes InKernel (s.steps + 1) (s.traps + 1) ≡ after)
+    → IsEnded (begun s) slot (plan_of x) new → IsSound new → IsTrapMade s new after 1
+trap_made s new slot process x after sound left few there doable law ended settled =
+    made_by s (begun s) new slot 1 (plan_of x) after refl (one_step s sound left) (one_trap s few) (begun_same s)
+    (λ done out. law (records_held done) (tapes_of done) (service_done (begun s) done slot s.steps process x (begins s sound left few) there doable out))
+    ended settled
+
+-- a trap whose records are set at once
+pub once_made : (s b new : PlantState) (slot made : ℕ) (items : List PatchItem) (after : Unix) → b.in_user ≡ false → b.steps ≡ s.steps + made → b.traps ≡ s.traps + 1 → IsSameMachine s b
+    → unix_of (with_items (records_held b) items) (words_of b.memory) (tapes_of b) InKernel (s.steps + made) (s.traps + 1) ≡ after
+    → IsEnded b slot (PlanOnce items) new → IsSound new → IsTrapMade s new after made
+once_made s b new slot made items after kernel steps traps same law ended sound =
+    made_by s b new slot made (PlanOnce items) after kernel steps traps same
+    (λ done out. ap (λ (h : Held PlantState). unix_of h.records (words_of b.memory) (tapes_of h.rest) InKernel (s.steps + made) (s.traps + 1)) out ∙ law)
+    ended sound

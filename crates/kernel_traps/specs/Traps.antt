@@ -1,17 +1,22 @@
 -- What the kinds of trap make of a plant, and what a refusal may leave of each.
-use Rattle.std.specs.Prelude.{◌≡◌, ℕ, ◌+◌, List, [], ◌∷◌, Option, Some}
-use Rattle.phys_memory.specs.Memory.{words_of}
+use Rattle.std.specs.Prelude.{◌≡◌, ℕ, ◌+◌, ◌≤◌, List, [], ◌∷◌, Option, Some, IfSome}
 use Rattle.record_layouts.specs.declared.head.HeadRec.{HeadRec}
 use Rattle.record_layouts.specs.declared.proc.ProcRec.{ProcRec}
 use Rattle.record_layouts.specs.declared.sig.SigRec.{SigRec}
 use Rattle.record_layouts.specs.declared.patch.PatchItem.{PatchItem}
+use Rattle.record_layouts.specs.Decode.{slot_by}
+use Rattle.record_layouts.specs.Held.{Records}
 use Rattle.record_layouts.specs.Sound.{IsIn}
+use Rattle.record_layouts.specs.Choice.{deliverable}
+use Rattle.record_layouts.specs.Signals.{signalled}
 use Rattle.record_layouts.specs.Unix.{Unix, Process}
 use Rattle.ow_base.specs.declared.machine.Came.{Came}
 use Rattle.ow_base.specs.declared.machine.Came.TheVariants as came
-use Rattle.process_table.specs.Patches.{ended_items, head_item, saved_items, signal_items}
-use Rattle.syscalls.specs.Planned.{Planned, PlanOnce, planned_call, planned_piece}
-use Rattle.ow_plant.specs.State.{PlantState, entered}
+use Rattle.process_table.specs.Patches.{head_item, signal_items}
+use Rattle.syscalls.specs.Planned.{Planned, PlanOnce}
+use Rattle.syscalls.specs.Serving.{plan_of}
+use Rattle.syscalls.specs.declared.service.Service.{Service}
+use Rattle.ow_plant.specs.State.{PlantState, entered, risen}
 use Rattle.intent_store.specs.Live.{records_held}
 use Rattle.kernel_traps.specs.Plants.{IsRunning, IsSound, unix_at}
 use Rattle.kernel_traps.specs.Ending.{MayBeLeftOfTrap}
@@ -33,9 +38,22 @@ IsLiveAs s pid p = (unix_at s).processes pid ≡ Some p
 abbrev pub IsTrapOf : (old new : PlantState) → (pid : ℕ) → (Process → Unix) → Type 0
 IsTrapOf old new pid after = (p : Process) × IsLiveAs old pid p × IsTrapMade old new (after p) 1
 
+-- the process with a pid is live, and no other is in its slot
+abbrev pub IsCaughtIn : Records → (pid : ℕ) → Type 0
+IsCaughtIn r pid = (slot : ℕ) × (process : ProcRec) × IsIn r slot process × (slot_by (r.exits pid) ≡ Some slot) × (1 ≤ pid) × (pid ≤ 256)
+
+-- a service carries the plan that is said of the head and of the process of its slot
+abbrev pub IsPlanOf : Records → (slot : ℕ) → Service → (HeadRec → ProcRec → Planned) → Type 0
+IsPlanOf r slot service plan = IfSome r.head (λ head. IfSome (r.procs slot) (λ process. plan_of service ≡ plan head process))
+
 -- a trap in which the head alone changes: it is served
 abbrev pub served_items : HeadRec → (trap : ℕ) → List PatchItem
 served_items head trap = head_item head trap head.last ∷ []
+
+-- a signal that goes to the live process with a pid is taken
+abbrev pub IsSignalTrap : (old new : PlantState) → (pid : ℕ) → Type 0
+IsSignalTrap old new pid = (p : Process) × IsLiveAs old pid p
+    × ((signal : ℕ) × (deliverable p ≡ Some signal) × IsTrapMade old new (signalled (unix_at old) pid p signal) 1)
 
 -- what a refusal may leave of a trap that the process in user mode had, with the plan that ends it
 abbrev pub MayBeLeftOfUser : PlantState → Came → (plan : HeadRec → (slot : ℕ) → ProcRec → Planned) → PlantState → Type 0
@@ -43,8 +61,19 @@ MayBeLeftOfUser old came plan new =
     (head : HeadRec) × (slot : ℕ) × (process : ProcRec) × ((records_held old).head ≡ Some head) × IsRunning old slot process
     × MayBeLeftOfTrap (entered old came) slot (plan head slot process) new
 
--- of one that a process in the kernel had
+-- of one that the process of a slot had, which is in the kernel
 abbrev pub MayBeLeftOfKernel : PlantState → (slot : ℕ) → (plan : HeadRec → ProcRec → Planned) → PlantState → Type 0
 MayBeLeftOfKernel old slot plan new =
     (head : HeadRec) × (process : ProcRec) × ((records_held old).head ≡ Some head) × IsIn (records_held old) slot process
     × MayBeLeftOfTrap (entered old came.Kernel) slot (plan head process) new
+
+-- of one in which a signal is taken
+abbrev pub MayBeLeftOfSignal : PlantState → (slot : ℕ) → PlantState → Type 0
+MayBeLeftOfSignal old slot new =
+    (signals : SigRec) × (signal : ℕ) × ((records_held old).sigs slot ≡ Some signals)
+    × MayBeLeftOfKernel old slot (λ head process. PlanOnce (signal_items head slot process signals signal (risen old.traps))) new
+
+-- of one that no process had: it came so
+abbrev pub MayBeLeftOfIdle : PlantState → Came → PlantState → Type 0
+MayBeLeftOfIdle old came new =
+    (head : HeadRec) × ((records_held old).head ≡ Some head) × MayBeLeftOfTrap (entered old came) 0 (PlanOnce (served_items head (risen old.traps))) new

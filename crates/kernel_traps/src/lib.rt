@@ -3,7 +3,9 @@
 #![tactic(auto)]
 
 mod ending;
+mod probe;
 mod services;
+mod traps;
 mod turns;
 
 pub use turns::Turn;
