@@ -37,7 +37,7 @@ use Rattle.ow_plant.specs.State.{PlantState, entered, left_trap, now_of, risen}
 use Rattle.intent_store.specs.Live.{records_held}
 use Rattle.kernel_traps.specs.Plants.{IsInTrap, IsRunning, IsSound, tapes_of, unix_at}
 use Rattle.kernel_traps.specs.Ending.{CanBeServed, EndsTrap, HasStep, IsEnded, MayBeLeftOfTrap}
-use Rattle.kernel_traps.specs.Traps.{IsCaughtIn, IsLiveAs, IsPlanOf, IsSignalTrap, IsTrapMade, IsTrapOf, served_items}
+use Rattle.kernel_traps.specs.Traps.{IsCaughtIn, IsLiveAs, IsPlanOf, IsSignalTaken, IsTrapMade, IsTrapOf, served_items}
 use Rattle.kernel_traps.proofs.Entering.{begun, begins, closing_begins}
 use Rattle.kernel_traps.proofs.Serves.{closed_in_user, closed_unix, idle_unix}
 use Rattle.kernel_traps.proofs.Stays.{eight_held}
@@ -315,7 +315,7 @@ signal_ends_with s slot process items sound is of = subst (λ (items : List Patc
     (signal_ends_trap (records_held s) of.head slot process of.signals of.signal (risen s.traps) sound.held.records sound.held.in_writes of.is_head is of.there of.next)
 
 pub signal_made : (s new : PlantState) (slot : ℕ) (process : ProcRec) (items : List PatchItem) → MayTrap s → s.in_user ≡ false → IsIn (records_held s) slot process
-    → Signalled s slot process items → IsEnded (begun s) slot (PlanOnce items) new → IsSound new → IsSignalTrap s new process.pid
+    → Signalled s slot process items → IsEnded (begun s) slot (PlanOnce items) new → IsSound new → IsSignalTaken s new process.pid
 signal_made s new slot process items may in_kernel is of ended settled =
     let r = records_held s in
     let words = words_of s.memory in

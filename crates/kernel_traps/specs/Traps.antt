@@ -4,6 +4,7 @@ use Rattle.record_layouts.specs.declared.head.HeadRec.{HeadRec}
 use Rattle.record_layouts.specs.declared.proc.ProcRec.{ProcRec}
 use Rattle.record_layouts.specs.declared.sig.SigRec.{SigRec}
 use Rattle.record_layouts.specs.declared.patch.PatchItem.{PatchItem}
+use Rattle.record_layouts.specs.Calls.{piece_of}
 use Rattle.record_layouts.specs.Decode.{slot_by}
 use Rattle.record_layouts.specs.Held.{Records}
 use Rattle.record_layouts.specs.Sound.{IsIn}
@@ -12,6 +13,7 @@ use Rattle.record_layouts.specs.Signals.{signalled}
 use Rattle.record_layouts.specs.Unix.{Unix, Process}
 use Rattle.ow_base.specs.declared.machine.Came.{Came}
 use Rattle.ow_base.specs.declared.machine.Came.TheVariants as came
+use Rattle.process_table.specs.Choosing.{signal_by}
 use Rattle.process_table.specs.Patches.{head_item, signal_items}
 use Rattle.syscalls.specs.Planned.{Planned, PlanOnce}
 use Rattle.syscalls.specs.Serving.{plan_of}
@@ -42,6 +44,18 @@ IsTrapOf old new pid after = (p : Process) × IsLiveAs old pid p × IsTrapMade o
 abbrev pub IsCaughtIn : Records → (pid : ℕ) → Type 0
 IsCaughtIn r pid = (slot : ℕ) × (process : ProcRec) × IsIn r slot process × (slot_by (r.exits pid) ≡ Some slot) × (1 ≤ pid) × (pid ≤ 256)
 
+-- and outside a call
+abbrev pub IsCallerOf : Records → (pid : ℕ) → Type 0
+IsCallerOf r pid = (slot : ℕ) × (process : ProcRec) × IsIn r slot process × (slot_by (r.exits pid) ≡ Some slot) × (process.state ≡ 1) × (1 ≤ pid) × (pid ≤ 256)
+
+-- the process of a slot is live and in a call
+abbrev pub IsInCallIn : Records → (slot : ℕ) → Type 0
+IsInCallIn r slot = (process : ProcRec) × IsIn r slot process × (process.state ≡ 2)
+
+-- it is live, and a signal goes to it
+abbrev pub HasSignalIn : Records → (slot : ℕ) → Type 0
+HasSignalIn r slot = (process : ProcRec) × IsIn r slot process × ((signal : ℕ) × (signal_by process (r.sigs slot) ≡ Some signal))
+
 -- a service carries the plan that is said of the head and of the process of its slot
 abbrev pub IsPlanOf : Records → (slot : ℕ) → Service → (HeadRec → ProcRec → Planned) → Type 0
 IsPlanOf r slot service plan = IfSome r.head (λ head. IfSome (r.procs slot) (λ process. plan_of service ≡ plan head process))
@@ -50,10 +64,18 @@ IsPlanOf r slot service plan = IfSome r.head (λ head. IfSome (r.procs slot) (λ
 abbrev pub served_items : HeadRec → (trap : ℕ) → List PatchItem
 served_items head trap = head_item head trap head.last ∷ []
 
+-- the process of a slot makes a further piece of its call
+abbrev pub IsPieceTrap : (old new : PlantState) → (slot : ℕ) → Type 0
+IsPieceTrap old new slot = (process : ProcRec) × IsIn (records_held old) slot process × IsTrapOf old new process.pid (piece_of (unix_at old) process.pid)
+
 -- a signal that goes to the live process with a pid is taken
-abbrev pub IsSignalTrap : (old new : PlantState) → (pid : ℕ) → Type 0
-IsSignalTrap old new pid = (p : Process) × IsLiveAs old pid p
+abbrev pub IsSignalTaken : (old new : PlantState) → (pid : ℕ) → Type 0
+IsSignalTaken old new pid = (p : Process) × IsLiveAs old pid p
     × ((signal : ℕ) × (deliverable p ≡ Some signal) × IsTrapMade old new (signalled (unix_at old) pid p signal) 1)
+
+-- and to that of a slot
+abbrev pub IsSignalTrap : (old new : PlantState) → (slot : ℕ) → Type 0
+IsSignalTrap old new slot = (process : ProcRec) × IsIn (records_held old) slot process × IsSignalTaken old new process.pid
 
 -- what a refusal may leave of a trap that the process in user mode had, with the plan that ends it
 abbrev pub MayBeLeftOfUser : PlantState → Came → (plan : HeadRec → (slot : ℕ) → ProcRec → Planned) → PlantState → Type 0
