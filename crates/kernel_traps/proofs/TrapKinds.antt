@@ -37,7 +37,7 @@ use Rattle.ow_plant.specs.State.{PlantState, entered, left_trap, now_of, risen}
 use Rattle.intent_store.specs.Live.{records_held}
 use Rattle.kernel_traps.specs.Plants.{IsInTrap, IsRunning, IsSound, tapes_of, unix_at}
 use Rattle.kernel_traps.specs.Ending.{CanBeServed, EndsTrap, HasStep, IsEnded, MayBeLeftOfTrap}
-use Rattle.kernel_traps.specs.Traps.{IsCaughtIn, IsLiveAs, IsPlanOf, IsSignalTaken, IsTrapMade, IsTrapOf, served_items}
+use Rattle.kernel_traps.specs.Traps.{HasSignalIn, IsCaughtIn, IsInCallIn, IsPieceTrap, IsSignalTrap, IsLiveAs, IsPlanOf, IsSignalTaken, IsTrapMade, IsTrapOf, served_items}
 use Rattle.kernel_traps.proofs.Entering.{begun, begins, closing_begins}
 use Rattle.kernel_traps.proofs.Serves.{closed_in_user, closed_unix, idle_unix}
 use Rattle.kernel_traps.proofs.Stays.{eight_held}
@@ -392,3 +392,64 @@ user_closed s new slot x sound few in_user of ended settled =
         sound.held.records of.is_head of.runs.there of.runs.outside
     ∙ ap closed (user_unix s slot of.process in_user of.runs)))
     once settled
+
+-- what the traps show at their end
+pub made_ok : {T E : Type 0} (r : Result T E) (s t new : PlantState) (slot : ℕ) (plan : Planned) (Made : Type 0) → t ≡ s → OnOk r (IsEnded t slot plan new) → OnOk r (IsSound new)
+    → (IsEnded s slot plan new → IsSound new → Made) → OnOk r Made
+made_ok (Ok x) s t new slot plan Made same ended sound made = made (subst (λ (t : PlantState). IsEnded t slot plan new) same ended) sound
+made_ok (Err e) s t new slot plan Made same ended sound made = tt
+
+pub doable_still : (s b : PlantState) (slot : ℕ) (x : Service) → b ≡ begun s → IsDoable (records_held b) (words_of b.memory) slot x → IsDoable (records_held s) (words_of s.memory) slot x
+doable_still s b slot x same doable = subst (λ (t : PlantState). IsDoable (records_held t) (words_of t.memory) slot x) same doable
+
+pub slice_caught : (s b : PlantState) (pid slot : ℕ) (bank : Bank) (x : Service) → b ≡ begun s → pid ≡ s.user_pid → bank ≡ s.bank → IsSound s → s.in_user ≡ true
+    → slot_by ((records_held b).exits pid) ≡ Some slot → IsPlanOf (records_held b) slot x (slice_plan bank slot b) → Caught s slot x (slice_plan s.bank slot (begun s))
+slice_caught s b pid slot bank x same same_pid same_bank sound in_user exit is =
+    caught s b pid slot x (slice_plan s.bank slot) same same_pid sound in_user exit (subst (λ (k : Bank). IsPlanOf (records_held b) slot x (slice_plan k slot b)) same_bank is)
+
+pub closing_caught : (s b : PlantState) (pid slot : ℕ) (bank : Bank) (x : Service) → b ≡ entered s came.Closing → pid ≡ s.user_pid → bank ≡ s.bank → IsSound s → s.in_user ≡ true
+    → slot_by ((records_held b).exits pid) ≡ Some slot → IsPlanOf (records_held b) slot x (slice_plan bank slot b) → Caught s slot x (slice_plan s.bank slot (entered s came.Closing))
+closing_caught s b pid slot bank x same same_pid same_bank sound in_user exit is =
+    caught_closing s b pid slot x (slice_plan s.bank slot) same same_pid sound in_user exit (subst (λ (k : Bank). IsPlanOf (records_held b) slot x (slice_plan k slot b)) same_bank is)
+
+pub call_caught : (s b : PlantState) (pid slot : ℕ) (bank : Bank) (x : Service) → b ≡ begun s → pid ≡ s.user_pid → bank ≡ s.bank → IsSound s → s.in_user ≡ true
+    → slot_by ((records_held b).exits pid) ≡ Some slot → IsPlanOf (records_held b) slot x (call_plan bank slot b) → Caught s slot x (call_plan s.bank slot (begun s))
+call_caught s b pid slot bank x same same_pid same_bank sound in_user exit is =
+    caught s b pid slot x (call_plan s.bank slot) same same_pid sound in_user exit (subst (λ (k : Bank). IsPlanOf (records_held b) slot x (call_plan k slot b)) same_bank is)
+
+pub fault_caught : (s b : PlantState) (pid slot status : ℕ) (x : Service) → b ≡ begun s → pid ≡ s.user_pid → IsSound s → s.in_user ≡ true
+    → slot_by ((records_held b).exits pid) ≡ Some slot → IsPlanOf (records_held b) slot x (fault_plan slot status b) → Caught s slot x (fault_plan slot status (begun s))
+fault_caught s b pid slot status x same same_pid sound in_user exit is = caught s b pid slot x (fault_plan slot status) same same_pid sound in_user exit is
+
+-- a trap that writes nothing
+pub once_begun : (s t : PlantState) → t ≡ begun s → MayTrap s → (steps : ℕ) × IsInTrap t steps × Unit {0}
+once_begun s t same may = subst (λ (t : PlantState). (steps : ℕ) × IsInTrap t steps × Unit {0}) (sym same) (s.steps, begins s may.sound may.left may.few, tt)
+
+pub trap_closing_once : (s t : PlantState) (slot : ℕ) (x : Service) → t ≡ entered s came.Closing → IsSound s → s.traps < 2 ^ 32 - 2 → Caught s slot x (slice_plan s.bank slot (entered s came.Closing))
+    → (steps : ℕ) × IsInTrap t steps × HasStep (plan_of x) steps t.steps
+trap_closing_once s t slot x same sound few is = subst (λ (plan : Planned). (steps : ℕ) × IsInTrap t steps × HasStep plan steps t.steps) (sym is.planned)
+    (trap_closing s t (saved_items is.head slot is.process s.bank (risen s.traps)) same sound few)
+
+pub user_closing_ends : (s : PlantState) (slot : ℕ) (x : Service) → IsSound s → Caught s slot x (slice_plan s.bank slot (entered s came.Closing)) → EndsTrap (records_held s) (risen s.traps) (plan_of x)
+user_closing_ends s slot x sound is = subst (λ (plan : Planned). EndsTrap (records_held s) (risen s.traps) plan) (sym is.planned)
+    (saved_ends (records_held s) is.head slot is.process s.bank (risen s.traps) sound.held.records sound.held.in_writes is.is_head is.runs.there is.runs.outside)
+
+-- of a process in the kernel
+pub piece_ends_then : (s b : PlantState) (slot : ℕ) (x : Service) → b ≡ begun s → IsSound s → IsInCallIn (records_held s) slot → IsPlanOf (records_held b) slot x (piece_plan slot b)
+    → EndsTrap (records_held s) (risen s.traps) (plan_of x)
+piece_ends_then s b slot x same sound (process, is, state) planned = piece_ends_trap s slot process x sound is state (caught_in s b slot process x (piece_plan slot) same sound is planned)
+
+pub piece_made_then : (s b new : PlantState) (slot : ℕ) (x : Service) → b ≡ begun s → MayTrap s → s.in_user ≡ false → IsInCallIn (records_held s) slot
+    → IsPlanOf (records_held b) slot x (piece_plan slot b) → IsDoable (records_held b) (words_of b.memory) slot x → IsEnded (begun s) slot (plan_of x) new → IsSound new → IsPieceTrap s new slot
+piece_made_then s b new slot x same may in_kernel (process, is, state) planned doable ended settled =
+    (process, is, piece_made s new slot process x may in_kernel is state (caught_in s b slot process x (piece_plan slot) same may.sound is planned) (doable_still s b slot x same doable) ended settled)
+
+pub signal_ends_then : (s b : PlantState) (slot : ℕ) (items : List PatchItem) → b ≡ begun s → IsSound s → HasSignalIn (records_held s) slot → IsSignalling (records_held b) slot (now_of b).trap items
+    → EndsTrap (records_held s) (risen s.traps) (PlanOnce items)
+signal_ends_then s b slot items same sound (process, is, (signal, goes)) planned =
+    signal_ends_with s slot process items sound is (signalling s b slot process signal items same sound is goes planned)
+
+pub signal_made_then : (s b new : PlantState) (slot : ℕ) (items : List PatchItem) → b ≡ begun s → MayTrap s → s.in_user ≡ false → HasSignalIn (records_held s) slot
+    → IsSignalling (records_held b) slot (now_of b).trap items → IsEnded (begun s) slot (PlanOnce items) new → IsSound new → IsSignalTrap s new slot
+signal_made_then s b new slot items same may in_kernel (process, is, (signal, goes)) planned ended settled =
+    (process, is, signal_made s new slot process items may in_kernel is (signalling s b slot process signal items same may.sound is goes planned) ended settled)
