@@ -1,15 +1,11 @@
 -- Stores of a plant, as the kernel that runs on it sees them.
-use Rattle.std.proofs.Common.{◌≡◌, ℕ, ◌<◌, true, false, List, [], ◌∷◌, length, slice_set, replicate, is_some, sym, ap, ◌∙◌, arith, length-set}
+use Rattle.std.proofs.Common.{◌≡◌, ℕ, ◌<◌, true, false, List, length, slice_set, replicate, is_some, sym, ap, ◌∙◌, arith, length-set}
 use Rattle.std.proofs.lemmas.Bool.Decides.{nat_tests}
-use Rattle.std.proofs.lemmas.Grind.{common_steps}
 use Rattle.std.proofs.lemmas.List.{length-replicate}
-use Rattle.std.specs.List.{list_any}
-use Rattle.ow_plant.specs.Points.{is_in, is_past}
-use Rattle.ow_plant.specs.declared.points.PanicPoint.{PanicPoint}
-use Rattle.ow_plant.specs.State.{IsArmed, PlantState, refuses, with_stored}
+use Rattle.ow_plant.specs.State.{IsArmed, PlantState, with_stored}
 use Rattle.phys_memory.specs.Memory.{IsSized, MemoryParts, frame_count, with_word, words_of}
 use Rattle.phys_memory.proofs.Words.{words_of-set}
-use Rattle.intent_store.specs.Live.{blank, blank_words, is_able, may_refuse, rest_of}
+use Rattle.intent_store.specs.Live.{blank, blank_words, rest_of}
 use Rattle.intent_store.specs.Stores.{with_word_at}
 
 -- a word is there only where its frame is
@@ -52,12 +48,3 @@ armed_by_rest old new e is =
       sized = rw frames (blank-sized old.shape.user_frames new.memory old.memory (ap (λ (s : PlantState). s.memory) e) is.sized);
       few_frames = rw frames is.few_frames;
     }
-
--- a point of which the stores are made is one of the trap
-past_is_in : (trap made : ℕ) (points : List PanicPoint) → list_any (is_past trap made) points ≡ true → list_any (is_in trap) points ≡ true
-past_is_in trap made [] is = grind (arith, is)
-past_is_in trap made (point ∷ points) is = grind (arith, nat_tests, common_steps, is, past_is_in trap made points)
-
--- a store that is refused while no refusal stands is of a trap with a point
-pub refused_in_trap : (s : PlantState) → is_able s ≡ true → refuses s ≡ true → may_refuse (rest_of s) ≡ true
-refused_in_trap s able refused = past_is_in s.traps s.stores s.points (grind (arith, common_steps, able, refused))

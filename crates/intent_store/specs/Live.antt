@@ -1,9 +1,7 @@
 -- What contracts see of the kernel that runs on a plant.
 use Rattle.std.specs.Prelude.{◌≡◌, ℕ, ◌+◌, Bool, true, false, not, ◌&&◌, List, [], length, replicate, is_some}
-use Rattle.std.specs.List.{list_any}
 use Rattle.ow_base.specs.declared.machine.AreaId.{AreaId}
 use Rattle.ow_base.specs.declared.machine.AreaId.TheVariants.{A, B}
-use Rattle.ow_plant.specs.Points.{is_in}
 use Rattle.ow_plant.specs.State.{IsArmed, PlantState}
 use Rattle.phys_memory.specs.Memory.{MemoryParts, words_of}
 use Rattle.record_layouts.specs.declared.memory_map.MemoryMap.{MemoryMap}
@@ -45,10 +43,6 @@ rest_of s = record s { memory = blank s.memory; refused = false; stores = 0; all
 -- it is armed, and no refusal stands
 abbrev pub is_able : PlantState → Bool
 is_able s = s.armed && not s.refused
-
--- a store may be refused: a panic is to come in the trap that was begun last
-abbrev pub may_refuse : PlantState → Bool
-may_refuse s = list_any (is_in s.traps) s.points
 
 -- it is armed, and the head decodes
 pub record IsStanding (s : PlantState) : Type 0 where

@@ -30,7 +30,6 @@ pub(crate) fn commit<W: WordStore>(store: &mut W, base: u32, patch: &Patch) -> R
     ensures rest { W.rest store.new ≡ W.rest store.old }
     ensures stays { OnOk result (W.able store.new ≡ true) }
     ensures cause { OnErr result (W.able store.new ≡ false) }
-    ensures allowed { OnErr result (W.may_refuse (W.rest store.old) ≡ true) }
     ensures place { W.place store.new ≡ W.place store.old }
 {
     roll_forward(store, base)?;

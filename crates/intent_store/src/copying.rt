@@ -21,7 +21,6 @@ pub(crate) fn roll_forward<W: WordStore>(store: &mut W, base: u32) -> Result<(),
     ensures rest { W.rest store.new ≡ W.rest store.old }
     ensures stays { OnOk result (W.able store.new ≡ true) }
     ensures cause { OnErr result (W.able store.new ≡ false) }
-    ensures allowed { OnErr result (W.may_refuse (W.rest store.old) ≡ true) }
     ensures place { W.place store.new ≡ W.place store.old }
 {
     match open_end(store, base) {
@@ -45,7 +44,6 @@ fn copy_changes<W: WordStore>(store: &mut W, base: u32, end: u32) -> Result<(), 
     ensures rest { W.rest store.new ≡ W.rest store.old }
     ensures stays { OnOk result (W.able store.new ≡ true) }
     ensures cause { OnErr result (W.able store.new ≡ false) }
-    ensures allowed { OnErr result (W.may_refuse (W.rest store.old) ≡ true) }
     ensures place { W.place store.new ≡ W.place store.old }
 {
     let mut place = PAYLOAD;
@@ -71,7 +69,6 @@ fn copy_change<W: WordStore>(store: &mut W, base: u32, change: Change) -> Result
     ensures rest { W.rest store.new ≡ W.rest store.old }
     ensures stays { OnOk result (W.able store.new ≡ true) }
     ensures cause { OnErr result (W.able store.new ≡ false) }
-    ensures allowed { OnErr result (W.may_refuse (W.rest store.old) ≡ true) }
     ensures place { W.place store.new ≡ W.place store.old }
 {
     for number in change.span.begin..change.span.end {

@@ -15,7 +15,6 @@ pub(crate) fn zero_frame<W: WordStore>(store: &mut W, frame: u32) -> Result<(), 
     ensures rest { W.rest store.new ≡ W.rest store.old }
     ensures stays { OnOk result (W.able store.new ≡ true) }
     ensures cause { OnErr result (W.able store.new ≡ false) }
-    ensures allowed { OnErr result (W.may_refuse (W.rest store.old) ≡ true) }
     ensures place { W.place store.new ≡ W.place store.old }
 {
     for word in 0..FRAME {
@@ -33,7 +32,6 @@ pub(crate) fn copy_frame<W: WordStore>(store: &mut W, from: u32, to: u32) -> Res
     ensures rest { W.rest store.new ≡ W.rest store.old }
     ensures stays { OnOk result (W.able store.new ≡ true) }
     ensures cause { OnErr result (W.able store.new ≡ false) }
-    ensures allowed { OnErr result (W.may_refuse (W.rest store.old) ≡ true) }
     ensures place { W.place store.new ≡ W.place store.old }
 {
     for place in 0..FRAME {

@@ -95,7 +95,7 @@ impl WordSource for Live<'_> {
 
 impl WordStore for Live<'_> {
     ghost use Rattle.ow_plant.specs.State.{PlantState};
-    ghost use Rattle.intent_store.specs.Live.{is_able, may_refuse, rest_of};
+    ghost use Rattle.intent_store.specs.Live.{is_able, rest_of};
 
     ghost Rest = { PlantState };
 
@@ -104,8 +104,6 @@ impl WordStore for Live<'_> {
     ghost able = { λ l. is_able l.plant.now };
 
     ghost place = { λ l. l.plant.ghost_name };
-
-    ghost may_refuse = { may_refuse };
 
     fn store(&mut self, frame: u32, word: u32, value: u32) -> Result<(), Panicked> {
         self.plant.store(frame, word, value)
@@ -185,11 +183,10 @@ impl RecordView for Live<'_> {
 #[tactic(auto, unfolding(record_layouts::specs::Reading::records_of, record_layouts::specs::Reading::records_in))]
 impl Writer for Live<'_> {
     ghost use Rattle.std.specs.Prelude.{◌⊎◌, []};
-    ghost use Rattle.phys_memory.specs.Memory.{words_of};
-    ghost use Rattle.record_layouts.specs.Held.{IsBeside, IsCommittable, IsDirect, IsDirectFrame, IsPartly, copied, patched, stored, zeroed};
+    ghost use Rattle.record_layouts.specs.Held.{IsCommittable, patched};
     ghost use Rattle.record_layouts.specs.declared.intent.Gate.TheVariants.{Closed};
     ghost use Rattle.ow_plant.specs.State.{PlantState};
-    ghost use Rattle.intent_store.specs.Live.{IsStanding, gate_held, held_of, may_refuse, records_held, rest_of};
+    ghost use Rattle.intent_store.specs.Live.{IsStanding, gate_held, held_of, records_held, rest_of};
 
     ghost Rest = { PlantState };
 
@@ -223,7 +220,6 @@ impl Writer for Live<'_> {
             ⊎ (held_of self.new.plant.now ≡ patched patch.now.items.items (held_of self.old.plant.now))) }
         ensures stays { OnOk result (self.new.plant.now.refused ≡ false) }
         ensures cause { OnErr result (self.new.plant.now.refused ≡ true) }
-        ensures allowed { OnErr result (may_refuse self.old.plant.now ≡ true) }
         ensures still_stands { IsStanding self.new.plant.now }
         ensures place { self.new.plant.ghost_name ≡ self.old.plant.ghost_name }
     {
@@ -231,54 +227,15 @@ impl Writer for Live<'_> {
         commit(self, base, patch)
     }
 
-    /// Stores a word that is there and is neither of a record nor of the intent block.
-    fn direct_word(&mut self, frame: u32, word: u32, value: u32) -> Result<(), Panicked>
-        requires able { self.old.plant.now.refused ≡ false }
-        requires stands { IsStanding self.old.plant.now }
-        requires direct { IsDirect (records_held self.old.plant.now) (words_of self.old.plant.now.memory) frame word }
-        ensures ok { OnOk result (held_of self.new.plant.now ≡ stored (held_of self.old.plant.now) frame word value) }
-        ensures err { OnErr result (held_of self.new.plant.now ≡ held_of self.old.plant.now) }
-        ensures stays { OnOk result (self.new.plant.now.refused ≡ false) }
-        ensures cause { OnErr result (self.new.plant.now.refused ≡ true) }
-        ensures allowed { OnErr result (may_refuse self.old.plant.now ≡ true) }
-        ensures still_stands { IsStanding self.new.plant.now }
-        ensures place { self.new.plant.ghost_name ≡ self.old.plant.ghost_name }
-    {
+    fn direct_word(&mut self, frame: u32, word: u32, value: u32) -> Result<(), Panicked> {
         self.store(frame, word, value)
     }
 
-    /// Copies a frame beside the area over another of which no word is of a record or of the intent block. At
-    /// `Panicked` the first words are copied, up to one.
-    fn copy_frame(&mut self, from: u32, to: u32) -> Result<(), Panicked>
-        requires able { self.old.plant.now.refused ≡ false }
-        requires stands { IsStanding self.old.plant.now }
-        requires from { IsBeside (records_held self.old.plant.now) (words_of self.old.plant.now.memory) from }
-        requires to { IsDirectFrame (records_held self.old.plant.now) (words_of self.old.plant.now.memory) to }
-        ensures ok { OnOk result (held_of self.new.plant.now ≡ copied (held_of self.old.plant.now) from to 1024) }
-        ensures err { OnErr result (IsPartly (copied (held_of self.old.plant.now) from to) (held_of self.new.plant.now)) }
-        ensures stays { OnOk result (self.new.plant.now.refused ≡ false) }
-        ensures cause { OnErr result (self.new.plant.now.refused ≡ true) }
-        ensures allowed { OnErr result (may_refuse self.old.plant.now ≡ true) }
-        ensures still_stands { IsStanding self.new.plant.now }
-        ensures place { self.new.plant.ghost_name ≡ self.old.plant.ghost_name }
-    {
+    fn copy_frame(&mut self, from: u32, to: u32) -> Result<(), Panicked> {
         copy_frame(self, from, to)
     }
 
-    /// Makes all words of a frame 0, of which no word is of a record or of the intent block. At `Panicked` the first
-    /// words are 0, up to one.
-    fn zero_frame(&mut self, frame: u32) -> Result<(), Panicked>
-        requires able { self.old.plant.now.refused ≡ false }
-        requires stands { IsStanding self.old.plant.now }
-        requires frame { IsDirectFrame (records_held self.old.plant.now) (words_of self.old.plant.now.memory) frame }
-        ensures ok { OnOk result (held_of self.new.plant.now ≡ zeroed (held_of self.old.plant.now) frame 1024) }
-        ensures err { OnErr result (IsPartly (zeroed (held_of self.old.plant.now) frame) (held_of self.new.plant.now)) }
-        ensures stays { OnOk result (self.new.plant.now.refused ≡ false) }
-        ensures cause { OnErr result (self.new.plant.now.refused ≡ true) }
-        ensures allowed { OnErr result (may_refuse self.old.plant.now ≡ true) }
-        ensures still_stands { IsStanding self.new.plant.now }
-        ensures place { self.new.plant.ghost_name ≡ self.old.plant.ghost_name }
-    {
+    fn zero_frame(&mut self, frame: u32) -> Result<(), Panicked> {
         zero_frame(self, frame)
     }
 }

@@ -22,7 +22,6 @@ pub(crate) fn open<W: WordStore>(store: &mut W, base: u32, payload: &[u32]) -> R
     ensures rest { W.rest store.new ≡ W.rest store.old }
     ensures stays { OnOk result (W.able store.new ≡ true) }
     ensures cause { OnErr result (W.able store.new ≡ false) }
-    ensures allowed { OnErr result (W.may_refuse (W.rest store.old) ≡ true) }
     ensures place { W.place store.new ≡ W.place store.old }
 {
     let count = payload.len() as u32;
@@ -45,7 +44,6 @@ fn store_payload<W: WordStore>(store: &mut W, base: u32, payload: &[u32]) -> Res
     ensures rest { W.rest store.new ≡ W.rest store.old }
     ensures stays { OnOk result (W.able store.new ≡ true) }
     ensures cause { OnErr result (W.able store.new ≡ false) }
-    ensures allowed { OnErr result (W.may_refuse (W.rest store.old) ≡ true) }
     ensures place { W.place store.new ≡ W.place store.old }
 {
     for (index, word) in payload.iter().enumerate() {

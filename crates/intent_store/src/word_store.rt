@@ -12,7 +12,7 @@ pub(crate) const FRAME: u32 = 1024;
 /// Memory of which single words can be stored, each by a store that may be refused.
 ///
 /// Contracts see its words and a rest, which no store changes. While `able` holds a store may be made; a refused one takes
-/// it away. The rest tells by `may_refuse` whether a store may be refused at all.
+/// it away.
 pub(crate) trait WordStore: WordSource {
     ghost use Rattle.std.specs.Prelude.{Bool, is_some};
     ghost use Rattle.std.specs.Borrow.{GName};
@@ -26,8 +26,6 @@ pub(crate) trait WordStore: WordSource {
 
     ghost place: { Self → GName };
 
-    ghost may_refuse: { Rest → Bool };
-
     /// Stores a word that is there.
     fn store(&mut self, frame: u32, word: u32, value: u32) -> Result<(), Panicked>
         requires able { able self.old ≡ true }
@@ -38,7 +36,6 @@ pub(crate) trait WordStore: WordSource {
         ensures rest { rest self.new ≡ rest self.old }
         ensures stays { OnOk result (able self.new ≡ true) }
         ensures cause { OnErr result (able self.new ≡ false) }
-        ensures allowed { OnErr result (may_refuse (rest self.old) ≡ true) }
         ensures place { place self.new ≡ place self.old };
 }
 
@@ -59,7 +56,6 @@ pub(crate) fn store_area<W: WordStore>(
     ensures rest { W.rest store.new ≡ W.rest store.old }
     ensures stays { OnOk result (W.able store.new ≡ true) }
     ensures cause { OnErr result (W.able store.new ≡ false) }
-    ensures allowed { OnErr result (W.may_refuse (W.rest store.old) ≡ true) }
     ensures place { W.place store.new ≡ W.place store.old }
 {
     store.store(base + number / FRAME, number % FRAME, value)

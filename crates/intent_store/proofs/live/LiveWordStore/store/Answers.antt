@@ -2,8 +2,8 @@ use Rattle.std.proofs.Common.{◌<◌, ◌∙◌, ap}
 use Rattle.ow_plant.specs.State.{PlantState}
 use Rattle.phys_memory.specs.Memory.{frame_count, words_of}
 use Rattle.intent_store.specs.Live.{rest_of}
-use Rattle.intent_store.proofs.Outcomes.{on_ok, on_err, either_way, told_by}
-use Rattle.intent_store.proofs.Plants.{frame_there, refused_in_trap, rest_stored, words_stored}
+use Rattle.intent_store.proofs.Outcomes.{on_ok, on_err, either_way}
+use Rattle.intent_store.proofs.Plants.{frame_there, rest_stored, words_stored}
 use Rattle.intent_store.proofs.live.LiveWordStore.store.Goals as goal
 
 pub store-requires-clause-frame : goal.store-requires-clause-frame
@@ -21,6 +21,3 @@ returns-clause-rest c =
     either_way c.store.result _
     (on_ok c.store.result _ _ (λ e. ap (λ (p : PlantState). rest_of p) e ∙ rest_stored s c.args.frame c.args.word c.args.value) c.store.ensures.ok)
     (on_err c.store.result _ _ (λ e. ap (λ (p : PlantState). rest_of p) e) c.store.ensures.err)
-
-pub returns-clause-allowed : goal.returns-clause-allowed
-returns-clause-allowed c = told_by c.store.result _ _ c.store.ensures.exact (refused_in_trap c.args.self.now.plant.now c.requires.able)
