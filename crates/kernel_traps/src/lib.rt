@@ -3,7 +3,6 @@
 #![tactic(auto)]
 
 mod ending;
-mod probe;
 mod services;
 mod traps;
 mod turns;
