@@ -6,3 +6,4 @@ pub mod Plans
 pub mod Serves
 pub mod TrapUnix
 pub mod TrapKinds
+pub mod TurnUnix

@@ -6,3 +6,4 @@ pub mod Carrying
 pub mod Ending
 pub mod Turning
 pub mod Traps
+pub mod User

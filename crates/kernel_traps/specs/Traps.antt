@@ -1,28 +1,37 @@
 -- What the kinds of trap make of a plant, and what a refusal may leave of each.
-use Rattle.std.specs.Prelude.{◌≡◌, ℕ, ◌+◌, ◌≤◌, List, [], ◌∷◌, Option, Some, IfSome}
+use Rattle.std.specs.Prelude.{◌≡◌, ℕ, ◌+◌, ◌≤◌, ◌⊎◌, true, false, nat_lt, List, [], ◌∷◌, Option, Some, IfSome}
+use Rattle.ow_base.specs.UserStep.{Call, Faulted}
+use Rattle.ow_base.specs.declared.machine.Came.{Came}
+use Rattle.ow_base.specs.declared.machine.Came.TheVariants as came
+use Rattle.ow_base.specs.declared.machine.Fault.{Fault}
+use Rattle.phys_memory.specs.Memory.{words_of}
 use Rattle.record_layouts.specs.declared.head.HeadRec.{HeadRec}
 use Rattle.record_layouts.specs.declared.proc.ProcRec.{ProcRec}
 use Rattle.record_layouts.specs.declared.sig.SigRec.{SigRec}
 use Rattle.record_layouts.specs.declared.patch.PatchItem.{PatchItem}
 use Rattle.record_layouts.specs.Calls.{piece_of}
+use Rattle.record_layouts.specs.Choice.{deliverable, no_keys}
 use Rattle.record_layouts.specs.Decode.{slot_by}
 use Rattle.record_layouts.specs.Held.{Records}
-use Rattle.record_layouts.specs.Sound.{IsIn}
-use Rattle.record_layouts.specs.Choice.{deliverable}
 use Rattle.record_layouts.specs.Signals.{signalled}
-use Rattle.record_layouts.specs.Unix.{Unix, Process}
-use Rattle.ow_base.specs.declared.machine.Came.{Came}
-use Rattle.ow_base.specs.declared.machine.Came.TheVariants as came
-use Rattle.process_table.specs.Choosing.{signal_by}
-use Rattle.process_table.specs.Patches.{head_item, signal_items}
-use Rattle.syscalls.specs.Planned.{Planned, PlanOnce}
+use Rattle.record_layouts.specs.Sound.{IsIn}
+use Rattle.record_layouts.specs.Turn.{step_of, turn_at}
+use Rattle.record_layouts.specs.Unix.{AtUser, Process, Unix}
+use Rattle.process_table.specs.Choosing.{IsChoice, signal_by}
+use Rattle.process_table.specs.Patches.{ended_items, head_item, saved_items, signal_items}
+use Rattle.process_table.specs.declared.choice.Choice.{Choice}
+use Rattle.process_table.specs.declared.choice.Choice.TheVariants as choice
+use Rattle.syscalls.specs.Planned.{Planned, PlanOnce, planned_call, planned_piece}
 use Rattle.syscalls.specs.Serving.{plan_of}
 use Rattle.syscalls.specs.declared.service.Service.{Service}
-use Rattle.ow_plant.specs.State.{PlantState, entered, risen}
+use Rattle.ow_plant.specs.State.{PlantState, entered, now_of, risen}
 use Rattle.intent_store.specs.Live.{records_held}
 use Rattle.kernel_traps.specs.Plants.{IsRunning, IsSound, unix_at}
 use Rattle.kernel_traps.specs.Ending.{MayBeLeftOfTrap}
 use Rattle.kernel_traps.specs.Turning.{IsSameMachine}
+use Rattle.kernel_traps.specs.User.{IsReturned}
+use Rattle.kernel_traps.specs.declared.turns.Turn.{Turn}
+use Rattle.kernel_traps.specs.declared.turns.Turn.TheVariants as turns
 
 -- A trap is made: the plant is sound again and stands for this state, and so many steps more are made.
 pub record IsTrapMade (old new : PlantState) (after : Unix) (made : ℕ) : Type 0 where
@@ -99,3 +108,58 @@ MayBeLeftOfSignal old slot new =
 abbrev pub MayBeLeftOfIdle : PlantState → Came → PlantState → Type 0
 MayBeLeftOfIdle old came new =
     (head : HeadRec) × ((records_held old).head ≡ Some head) × MayBeLeftOfTrap (entered old came) 0 (PlanOnce (served_items head (risen old.traps))) new
+
+-- what a refusal may leave at the end of a slice, at a fault of this cause and at a call
+abbrev pub MayBeLeftOfSlice : (old new : PlantState) → Type 0
+MayBeLeftOfSlice old new = MayBeLeftOfUser old came.User (λ head slot process. PlanOnce (saved_items head slot process old.bank (risen old.traps))) new
+
+abbrev pub MayBeLeftOfFault : (old : PlantState) → (cause : ℕ) → (new : PlantState) → Type 0
+MayBeLeftOfFault old cause new = MayBeLeftOfUser old came.User (λ head slot process. PlanOnce (ended_items head slot process (0x200 + cause) (risen old.traps))) new
+
+abbrev pub MayBeLeftOfCall : (old new : PlantState) → Type 0
+MayBeLeftOfCall old new =
+    MayBeLeftOfUser old came.Call (λ head slot process. planned_call (records_held old) (words_of old.memory) slot (risen old.traps) head process old.bank) new
+
+-- and where the process of a slot makes a further piece
+abbrev pub MayBeLeftOfPiece : (old : PlantState) → (slot : ℕ) → (new : PlantState) → Type 0
+MayBeLeftOfPiece old slot new = MayBeLeftOfKernel old slot (λ head process. planned_piece (records_held old) (words_of old.memory) slot (risen old.traps) head process) new
+
+-- a closing trap, of a process in user mode or of none
+abbrev pub MayBeLeftOfClosing : (old new : PlantState) → Type 0
+MayBeLeftOfClosing old new =
+    MayBeLeftOfUser old came.Closing (λ head slot process. PlanOnce (saved_items head slot process old.bank (risen old.traps))) new
+    ⊎ MayBeLeftOfIdle old came.Closing new
+
+-- a turn in user mode is made
+pub record IsUserTurned (old new : PlantState) : Type 0 where
+  pub sound : IsSound new
+  pub turn : unix_at new ≡ turn_at no_keys old.shape.quantum (unix_at old) (AtUser old.user_pid old.slice)
+  pub steps : new.steps ≡ old.steps + 1
+  pub same : IsSameMachine old new
+
+abbrev pub IsTurnInUser : PlantState → PlantState → Turn → Type 0
+IsTurnInUser old new turns.Step = IsUserTurned old new × (new.traps ≡ old.traps)
+IsTurnInUser old new turns.Trap = IsUserTurned old new × (new.traps ≡ old.traps + 1)
+IsTurnInUser old new turns.AllEnded = ⊥
+
+-- what a refusal may leave of a turn in user mode, by what the process comes to
+abbrev pub MayBeLeftOfUserTurn : (old new : PlantState) → Type 0
+MayBeLeftOfUserTurn old new = (process : Process) × IsLiveAs old old.user_pid process
+    × (((nat_lt old.slice old.shape.quantum ≡ false) × MayBeLeftOfSlice old new)
+    ⊎ (((nat_lt old.slice old.shape.quantum ≡ true) × (step_of process ≡ Call) × MayBeLeftOfCall old new)
+    ⊎ ((fault : Fault) × (nat_lt old.slice old.shape.quantum ≡ true) × (step_of process ≡ Faulted fault) × MayBeLeftOfFault old fault.cause new)))
+
+-- of one in the kernel, by what is chosen
+abbrev pub MayBeLeftOfChoice : PlantState → Choice → PlantState → Type 0
+MayBeLeftOfChoice old (choice.User slot) new = (between : PlantState) × IsReturned old slot between × MayBeLeftOfUserTurn between new
+MayBeLeftOfChoice old (choice.Piece slot) new = MayBeLeftOfPiece old slot new
+MayBeLeftOfChoice old (choice.Signal slot) new = MayBeLeftOfSignal old slot new
+MayBeLeftOfChoice old choice.Idle new = MayBeLeftOfIdle old came.Kernel new
+MayBeLeftOfChoice old choice.AllEnded new = ⊥
+
+abbrev pub MayBeLeftOfKernelTurn : (old new : PlantState) → Type 0
+MayBeLeftOfKernelTurn old new = (choice : Choice) × IsChoice (records_held old) (now_of old) choice × MayBeLeftOfChoice old choice new
+
+-- of any turn
+abbrev pub MayBeLeftOfTurn : (old new : PlantState) → Type 0
+MayBeLeftOfTurn old new = ((old.in_user ≡ true) × MayBeLeftOfUserTurn old new) ⊎ ((old.in_user ≡ false) × MayBeLeftOfKernelTurn old new)

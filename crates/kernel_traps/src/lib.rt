@@ -4,7 +4,10 @@
 
 mod ending;
 mod services;
+mod serving;
 mod traps;
 mod turns;
+mod user;
 
+pub use serving::{serve_trap, shutdown};
 pub use turns::Turn;

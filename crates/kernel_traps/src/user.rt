@@ -1,0 +1,40 @@
+//! User mode: control goes to a process, and the process makes instructions.
+ghost use Rattle.std.specs.Prelude.{◌≡◌, ◌<◌, true, false};
+ghost use Rattle.record_layouts.specs.declared.proc.ProcRec.{ProcRec};
+ghost use Rattle.kernel_traps.specs.Plants.{IsSound};
+ghost use Rattle.kernel_traps.specs.User.{IsOutside, IsReturned, IsUserTurn};
+
+use intent_store::Live;
+use ow_plant::{Bank, Plant, UserEnd};
+use record_layouts::RecordView;
+
+// The first frame of an area with tables, of which each slot has three.
+const FIRST_ROOT: u32 = 16;
+
+// Control goes to the process in a slot, which is outside a call: its bank is loaded and its tables are in use.
+pub(crate) fn return_to(plant: &mut Plant, slot: u32)
+    requires sound { IsSound plant.old }
+    requires in_kernel { plant.old.in_user ≡ false }
+    requires process { (process : ProcRec) × IsOutside plant.old slot process }
+    ensures returned { IsReturned plant.old slot plant.new }
+    ensures sound { IsSound plant.new }
+{
+    let live = Live::new(plant);
+    let process = live.proc(slot).unwrap();
+    let root = live.area_base() + FIRST_ROOT + 3 * slot;
+    let bank = Bank {
+        pc: process.pc,
+        regs: process.regs,
+    };
+    plant.to_user(process.pid, &bank, root);
+}
+
+// One turn of the process in user mode: an instruction, or what ends in a trap.
+pub(crate) fn user_step(plant: &mut Plant) -> UserEnd
+    requires sound { IsSound plant.old }
+    requires in_user { plant.old.in_user ≡ true }
+    requires budget { plant.old.steps < plant.old.shape.budget }
+    ensures { IsUserTurn plant.old plant.new result }
+{
+    plant.user_step()
+}
