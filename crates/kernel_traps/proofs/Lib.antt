@@ -7,3 +7,5 @@ pub mod Serves
 pub mod TrapUnix
 pub mod TrapKinds
 pub mod TurnUnix
+pub mod UserServed
+pub mod KernelServed
