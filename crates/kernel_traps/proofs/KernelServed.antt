@@ -29,7 +29,7 @@ use Rattle.kernel_traps.specs.User.{IsOutside, IsReturned}
 use Rattle.kernel_traps.specs.declared.turns.Turn.{Turn}
 use Rattle.kernel_traps.specs.declared.turns.Turn.TheVariants as turns
 use Rattle.kernel_traps.proofs.TrapKinds.{live_at}
-use Rattle.kernel_traps.proofs.TurnUnix.{at_process, chosen_of, idle_turn, none_of, not_ended, piece_turn, rest_tells, return_turn, signal_turn, turned}
+use Rattle.kernel_traps.proofs.TurnUnix.{at_process, chosen_of, idle_turn, none_of, not_ended, piece_turn, rest_tells, return_turn, signal_turn, turned, user_turn_is}
 use Rattle.kernel_traps.proofs.UserServed.{one_live}
 
 -- who is chosen is live
@@ -206,3 +206,18 @@ returned_turned (Ok made) s b t between new slot same same_end sound in_kernel i
     returned_by s between new slot made sound in_kernel (subst (λ (t : PlantState). IsWork (records_held t) (now_of t) slot (choice.User slot)) same is)
     (subst (λ (t : PlantState). IsReturned t slot between) same_end returned) turned
 returned_turned (Err e) s b t between new slot same same_end sound in_kernel is returned turned = tt
+
+-- in user mode some process is live
+pub user_not_ended : (s : PlantState) → IsSound s → s.in_user ≡ true → AllHaveEnded s → ⊥
+user_not_ended s sound in_user =
+    let (slot, process, runs) = sound.in_user in_user in
+    not_ended s slot process sound runs.there
+
+by_user : (s new : PlantState) (made : Turn) → s.in_user ≡ true → IsTurnInUser s new made → IsTurn s new made
+by_user s new turns.Step in_user is = (record { sound = is.0.sound; turn = is.0.turn ∙ sym (user_turn_is s in_user); steps = is.0.steps; same = is.0.same }, is.1)
+by_user s new turns.Trap in_user is = (record { sound = is.0.sound; turn = is.0.turn ∙ sym (user_turn_is s in_user); steps = is.0.steps; same = is.0.same }, is.1)
+by_user s new turns.AllEnded in_user is = absurd is
+
+pub turned_in_user : {E : Type 0} (r : Result Turn E) (s new : PlantState) → s.in_user ≡ true → IfOk r (IsTurnInUser s new) → IfOk r (IsTurn s new)
+turned_in_user (Ok made) s new in_user is = by_user s new made in_user is
+turned_in_user (Err e) s new in_user is = tt

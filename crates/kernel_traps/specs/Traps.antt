@@ -1,5 +1,5 @@
 -- What the kinds of trap make of a plant, and what a refusal may leave of each.
-use Rattle.std.specs.Prelude.{◌≡◌, ℕ, ◌+◌, ◌≤◌, ◌⊎◌, true, false, nat_lt, List, [], ◌∷◌, Option, Some, IfSome}
+use Rattle.std.specs.Prelude.{◌≡◌, ℕ, ◌+◌, ◌≤◌, ◌⊎◌, true, false, nat_lt, List, [], ◌∷◌, Option, Some, IfSome, Result, Ok}
 use Rattle.ow_base.specs.UserStep.{Call, Faulted}
 use Rattle.ow_base.specs.declared.machine.Came.{Came}
 use Rattle.ow_base.specs.declared.machine.Came.TheVariants as came
@@ -163,3 +163,8 @@ MayBeLeftOfKernelTurn old new = (choice : Choice) × IsChoice (records_held old)
 -- of any turn
 abbrev pub MayBeLeftOfTurn : (old new : PlantState) → Type 0
 MayBeLeftOfTurn old new = ((old.in_user ≡ true) × MayBeLeftOfUserTurn old new) ⊎ ((old.in_user ≡ false) × MayBeLeftOfKernelTurn old new)
+
+-- the answer where no process is live
+abbrev pub IsAllEnded : {E : Type 0} → Result Turn E → Type 0
+IsAllEnded (Ok turns.AllEnded) = Unit {0}
+IsAllEnded other = ⊥

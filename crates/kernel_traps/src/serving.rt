@@ -5,7 +5,7 @@ ghost use Rattle.process_table.specs.Choosing.{IsChoice};
 ghost use Rattle.ow_plant.specs.State.{now_of};
 ghost use Rattle.intent_store.specs.Live.{records_held};
 ghost use Rattle.kernel_traps.specs.Plants.{IsSound, unix_at};
-ghost use Rattle.kernel_traps.specs.Traps.{IsTrapMade, IsTurnInUser, MayBeLeftOfClosing, MayBeLeftOfKernelTurn, MayBeLeftOfTurn, MayBeLeftOfUserTurn};
+ghost use Rattle.kernel_traps.specs.Traps.{IsAllEnded, IsTrapMade, IsTurnInUser, MayBeLeftOfClosing, MayBeLeftOfKernelTurn, MayBeLeftOfTurn, MayBeLeftOfUserTurn};
 ghost use Rattle.kernel_traps.specs.Turning.{AllHaveEnded, IsTurn};
 
 use crate::traps::{
@@ -54,6 +54,7 @@ fn kernel_turn(plant: &mut Plant) -> Result<Turn, Panicked>
     requires traps { plant.old.traps < 2 ^ 32 - 2 }
     requires budget { (plant.old.steps < plant.old.shape.budget) ⊎ AllHaveEnded plant.old }
     ensures ok { IfOk result (IsTurn plant.old plant.new) }
+    ensures ended { AllHaveEnded plant.old → IsAllEnded result }
     ensures err { OnErr result (MayBeLeftOfKernelTurn plant.old plant.new) }
 {
     let mut live = Live::new(plant);
@@ -79,6 +80,7 @@ pub fn serve_trap(plant: &mut Plant) -> Result<Turn, Panicked>
     requires traps { plant.old.traps < 2 ^ 32 - 2 }
     requires budget { (plant.old.steps < plant.old.shape.budget) ⊎ AllHaveEnded plant.old }
     ensures ok { IfOk result (IsTurn plant.old plant.new) }
+    ensures ended { AllHaveEnded plant.old → IsAllEnded result }
     ensures err { OnErr result (MayBeLeftOfTurn plant.old plant.new) }
 {
     if plant.in_user() {

@@ -57,3 +57,30 @@ pub returns-in_ok-idle_trap-in-Idle-clause-ok : goal.returns-in_ok-idle_trap-in-
 returns-in_ok-idle_trap-in-Idle-clause-ok c =
     idle_turned c.args.plant.now c.new-live.result.plant.now c.plant-1.given.0 c.idle_trap.new.plant c.new-live.ensures.plant (search rules)
     c.requires.sound c.requires.in_kernel c.in-Idle.ensures.choice c.in_ok-idle_trap-in-Idle.ensures.ok
+
+pub returns-in-User-clause-ended : goal.returns-in-User-clause-ended
+returns-in-User-clause-ended c = λ ended. absurd
+    (work_live c.args.plant.now c.new-live.result.plant.now c.in-User.slot (choice.User c.in-User.slot) c.new-live.ensures.plant c.requires.sound c.in-User.ensures.choice ended)
+
+pub returns-in_err-piece_trap-in-Piece-clause-ended : goal.returns-in_err-piece_trap-in-Piece-clause-ended
+returns-in_err-piece_trap-in-Piece-clause-ended c = λ ended. absurd
+    (work_live c.args.plant.now c.new-live.result.plant.now c.in-Piece.slot (choice.Piece c.in-Piece.slot) c.new-live.ensures.plant c.requires.sound c.in-Piece.ensures.choice ended)
+
+pub returns-in_ok-piece_trap-in-Piece-clause-ended : goal.returns-in_ok-piece_trap-in-Piece-clause-ended
+returns-in_ok-piece_trap-in-Piece-clause-ended c =
+    work_live c.args.plant.now c.new-live.result.plant.now c.in-Piece.slot (choice.Piece c.in-Piece.slot) c.new-live.ensures.plant c.requires.sound c.in-Piece.ensures.choice
+
+pub returns-in_err-signal_trap-in-Signal-clause-ended : goal.returns-in_err-signal_trap-in-Signal-clause-ended
+returns-in_err-signal_trap-in-Signal-clause-ended c = λ ended. absurd
+    (work_live c.args.plant.now c.new-live.result.plant.now c.in-Signal.slot (choice.Signal c.in-Signal.slot) c.new-live.ensures.plant c.requires.sound c.in-Signal.ensures.choice ended)
+
+pub returns-in_ok-signal_trap-in-Signal-clause-ended : goal.returns-in_ok-signal_trap-in-Signal-clause-ended
+returns-in_ok-signal_trap-in-Signal-clause-ended c =
+    work_live c.args.plant.now c.new-live.result.plant.now c.in-Signal.slot (choice.Signal c.in-Signal.slot) c.new-live.ensures.plant c.requires.sound c.in-Signal.ensures.choice
+
+pub returns-in_err-idle_trap-in-Idle-clause-ended : goal.returns-in_err-idle_trap-in-Idle-clause-ended
+returns-in_err-idle_trap-in-Idle-clause-ended c = λ ended. absurd
+    (rest_live c.args.plant.now c.new-live.result.plant.now c.new-live.ensures.plant c.requires.sound c.in-Idle.ensures.choice ended)
+
+pub returns-in_ok-idle_trap-in-Idle-clause-ended : goal.returns-in_ok-idle_trap-in-Idle-clause-ended
+returns-in_ok-idle_trap-in-Idle-clause-ended c = rest_live c.args.plant.now c.new-live.result.plant.now c.new-live.ensures.plant c.requires.sound c.in-Idle.ensures.choice
