@@ -146,7 +146,7 @@ piece_turned s b t new slot same same_end sound in_kernel is of =
     let (process, there, (p, live, made)) = subst (λ (t : PlantState). IsPieceTrap t new slot) same_end of in
     let one : own.process ≡ process = one_process (records_held s) slot own.process process own.there there.there in
     let work : choice.Piece slot ≡ work_of slot (signal_by process ((records_held s).sigs slot)) process.state =
-        subst (λ (q : ProcRec). choice.Piece slot ≡ work_of slot (signal_by q ((records_held s).sigs slot)) q.state) one own.work in
+    subst (λ (q : ProcRec). choice.Piece slot ≡ work_of slot (signal_by q ((records_held s).sigs slot)) q.state) one own.work in
     let last = piece_then slot (signal_by process ((records_held s).sigs slot)) process.state work in
     turned s new (piece_of (unix_at s) process.pid p) made
     (piece_turn s process.pid p process.call process.done in_kernel (chosen_of s slot process sound in_kernel own.chosen there.there) live
@@ -171,7 +171,7 @@ returned_turn s between slot sound in_kernel own is =
     let pid = is.process.pid in
     let one : own.process ≡ is.process = one_process (records_held s) slot own.process is.process own.there is.there.there in
     let work : choice.User slot ≡ work_of slot (signal_by is.process ((records_held s).sigs slot)) is.process.state =
-        subst (λ (q : ProcRec). choice.User slot ≡ work_of slot (signal_by q ((records_held s).sigs slot)) q.state) one own.work in
+    subst (λ (q : ProcRec). choice.User slot ≡ work_of slot (signal_by q ((records_held s).sigs slot)) q.state) one own.work in
     let last = user_last slot (signal_by is.process ((records_held s).sigs slot)) is.process.state work in
     let p = process_of (records_held s) (words_of s.memory) slot is.process in
     let live : IsLiveAs s pid p = live_at s slot is.process sound in_kernel is.there in

@@ -141,13 +141,13 @@ unfolding signal_items
 signal_are_items r head slot process signals signal trap writes is = elim (cases_Bool (handler_of signals signal == 0)) [
   | inl ends ↦ rw ends (ended_are_items r head slot process (0x100 + signal) trap writes)
   | inr goes_on ↦ rw goes_on (record {
-      of_processes = three_of (head_item head trap process.pid) (process_item slot (signalled_process process signal (handler_of signals signal))) (signals_item slot (without_signal signals signal)) refl refl refl;
-      in_writes = writes_then r slot (signalled_process process signal (handler_of signals signal))
-          (with_items r (head_item head trap process.pid ∷ process_item slot (signalled_process process signal (handler_of signals signal)) ∷ signals_item slot (without_signal signals signal) ∷ [])) writes (signalled_in process signal (handler_of signals signal) (writes.each slot process is)) refl;
-      head = record head { served = trap; last = process.pid };
-      is_head = refl;
-      served = refl;
-    })
+    of_processes = three_of (head_item head trap process.pid) (process_item slot (signalled_process process signal (handler_of signals signal))) (signals_item slot (without_signal signals signal)) refl refl refl;
+    in_writes = writes_then r slot (signalled_process process signal (handler_of signals signal))
+        (with_items r (head_item head trap process.pid ∷ process_item slot (signalled_process process signal (handler_of signals signal)) ∷ signals_item slot (without_signal signals signal) ∷ [])) writes (signalled_in process signal (handler_of signals signal) (writes.each slot process is)) refl;
+    head = record head { served = trap; last = process.pid };
+    is_head = refl;
+    served = refl;
+  })
 ]
 
 pub signal_ends_trap : (r : Records) (head : HeadRec) (slot : ℕ) (process : ProcRec) (signals : SigRec) (signal trap : ℕ) → AreSound r → AreInWrites r → r.head ≡ Some head

@@ -69,7 +69,7 @@ pub user_caught : (s : PlantState) → IsSound s → s.in_user ≡ true → IsCa
 user_caught s sound in_user =
     let (slot, process, runs) = sound.in_user in_user in
     let exit : slot_by ((records_held s).exits s.user_pid) ≡ Some slot =
-        subst (λ (pid : ℕ). slot_by ((records_held s).exits pid) ≡ Some slot) runs.pid (sound.held.records.numbered.exit slot process runs.there) in
+    subst (λ (pid : ℕ). slot_by ((records_held s).exits pid) ≡ Some slot) runs.pid (sound.held.records.numbered.exit slot process runs.there) in
     let range = pid_range (records_held s) slot process sound.held.records.values runs.there in
     (slot, process, runs.there, exit, subst (λ (pid : ℕ). 1 ≤ pid) runs.pid range.0, subst (λ (pid : ℕ). pid ≤ 256) runs.pid range.1)
 
@@ -92,7 +92,7 @@ runs_in : (s : PlantState) (slot : ℕ) → IsSound s → s.in_user ≡ true →
 runs_in s slot sound in_user exit =
     let (place, process, runs) = sound.in_user in_user in
     let there : slot_by ((records_held s).exits s.user_pid) ≡ Some place =
-        subst (λ (pid : ℕ). slot_by ((records_held s).exits pid) ≡ Some place) runs.pid (sound.held.records.numbered.exit place process runs.there) in
+    subst (λ (pid : ℕ). slot_by ((records_held s).exits pid) ≡ Some place) runs.pid (sound.held.records.numbered.exit place process runs.there) in
     let both : Some place ≡ Some slot = sym there ∙ exit in
     let same : place ≡ slot = cc in
     (process, subst (λ (k : ℕ). IsRunning s k process) same runs)
@@ -101,7 +101,7 @@ planned_by : (r : Records) (slot : ℕ) (x : Service) (plan : HeadRec → ProcRe
     → IsPlanOf r slot x plan → plan_of x ≡ plan head process
 planned_by r slot x plan head process is_head there is =
     let by_head : IfSome (r.procs slot) (λ process. plan_of x ≡ plan head process) =
-        subst (λ (held : Option HeadRec). IfSome held (λ head. IfSome (r.procs slot) (λ process. plan_of x ≡ plan head process))) is_head is in
+    subst (λ (held : Option HeadRec). IfSome held (λ head. IfSome (r.procs slot) (λ process. plan_of x ≡ plan head process))) is_head is in
     subst (λ (held : Option ProcRec). IfSome held (λ process. plan_of x ≡ plan head process)) there by_head
 
 caught_by : (s b base : PlantState) (pid slot : ℕ) (x : Service) (plan : PlantState → HeadRec → ProcRec → Planned) → records_held base ≡ records_held s → b ≡ base → pid ≡ s.user_pid
@@ -148,12 +148,12 @@ pub slice_made : (s new : PlantState) (slot : ℕ) (x : Service) → MayTrap s �
 slice_made s new slot x may in_user is doable ended settled =
     trap_made s new slot is.process x (trapped (unix_at s) s.user_pid) may.sound may.left may.few is.runs.there.there doable
     (λ done tapes served.
-        let made : IsDone (records_held s) (words_of s.memory) (tapes_of s) slot is.process (PlanOnce (saved_items is.head slot is.process s.bank (risen s.traps))) done tapes =
-            subst (λ (plan : Planned). IsDone (records_held s) (words_of s.memory) (tapes_of s) slot is.process plan done tapes) is.planned served in
-        (λ i. unix_of (made.0 i) (words_of s.memory) (made.1 i) InKernel (s.steps + 1) (s.traps + 1))
-        ∙ (saved_unix (records_held s) is.head slot is.process s.bank (risen s.traps) (words_of s.memory) (tapes_of s) s.slice s.steps s.traps
-            may.sound.held.records is.is_head is.runs.there is.runs.outside
-        ∙ (λ i. trapped (user_unix s slot is.process in_user is.runs i) (is.runs.pid i))))
+    let made : IsDone (records_held s) (words_of s.memory) (tapes_of s) slot is.process (PlanOnce (saved_items is.head slot is.process s.bank (risen s.traps))) done tapes =
+    subst (λ (plan : Planned). IsDone (records_held s) (words_of s.memory) (tapes_of s) slot is.process plan done tapes) is.planned served in
+    (λ i. unix_of (made.0 i) (words_of s.memory) (made.1 i) InKernel (s.steps + 1) (s.traps + 1))
+    ∙ (saved_unix (records_held s) is.head slot is.process s.bank (risen s.traps) (words_of s.memory) (tapes_of s) s.slice s.steps s.traps
+    may.sound.held.records is.is_head is.runs.there is.runs.outside
+    ∙ (λ i. trapped (user_unix s slot is.process in_user is.runs i) (is.runs.pid i))))
     ended settled
 
 -- a trap of the process in user mode, by its records
@@ -162,10 +162,11 @@ user_trap_of : (s new : PlantState) (slot : ℕ) (process : ProcRec) (after : Un
     → IsTrapMade s new (after (unix_of (records_held s) (words_of s.memory) (tapes_of s) (InUser process.pid s.slice s.bank) s.steps s.traps) process.pid p) 1
     → IsTrapOf s new s.user_pid (after (unix_at s) s.user_pid)
 user_trap_of s new slot process after p in_user runs live made =
-    let unix = user_unix s slot process in_user runs in
-    (p,
-    subst (λ (pid : ℕ). (unix_at s).processes pid ≡ Some p) runs.pid (subst (λ (u : Unix). u.processes process.pid ≡ Some p) unix live),
-    subst (λ (pid : ℕ). IsTrapMade s new (after (unix_at s) pid p) 1) runs.pid (subst (λ (u : Unix). IsTrapMade s new (after u process.pid p) 1) unix made))
+    let unix = user_unix s slot process in_user runs in (
+      p,
+      subst (λ (pid : ℕ). (unix_at s).processes pid ≡ Some p) runs.pid (subst (λ (u : Unix). u.processes process.pid ≡ Some p) unix live),
+      subst (λ (pid : ℕ). IsTrapMade s new (after (unix_at s) pid p) 1) runs.pid (subst (λ (u : Unix). IsTrapMade s new (after u process.pid p) 1) unix made),
+    )
 
 -- a process ends by a fault
 abbrev pub fault_plan : (slot status : ℕ) → PlantState → HeadRec → ProcRec → Planned
@@ -186,12 +187,12 @@ fault_made s new slot status x may in_user word is doable ended settled =
     user_trap_of s new slot is.process (λ u pid p. ended_as (trapped u pid) pid p status) p in_user is.runs live
     (trap_made s new slot is.process x (ended_as (trapped u is.process.pid) is.process.pid p status) may.sound may.left may.few is.runs.there.there doable
     (λ done tapes served.
-        let made : IsDone (records_held s) (words_of s.memory) (tapes_of s) slot is.process (PlanOnce (ended_items is.head slot is.process status (risen s.traps))) done tapes =
-            subst (λ (plan : Planned). IsDone (records_held s) (words_of s.memory) (tapes_of s) slot is.process plan done tapes) is.planned served in
-        (λ i. unix_of (made.0 i) (words_of s.memory) (made.1 i) InKernel (s.steps + 1) (s.traps + 1))
-        ∙ (ap (λ (r : Records). unix_of r (words_of s.memory) (tapes_of s) InKernel (s.steps + 1) (s.traps + 1)) (ended_are (records_held s) is.head slot is.process status (risen s.traps))
-        ∙ ended_unix (records_held s) is.head slot is.process status (risen s.traps) (words_of s.memory) (tapes_of s) context s.steps s.traps p
-            may.sound.held.records is.is_head is.runs.there word refl live))
+    let made : IsDone (records_held s) (words_of s.memory) (tapes_of s) slot is.process (PlanOnce (ended_items is.head slot is.process status (risen s.traps))) done tapes =
+    subst (λ (plan : Planned). IsDone (records_held s) (words_of s.memory) (tapes_of s) slot is.process plan done tapes) is.planned served in
+    (λ i. unix_of (made.0 i) (words_of s.memory) (made.1 i) InKernel (s.steps + 1) (s.traps + 1))
+    ∙ (ap (λ (r : Records). unix_of r (words_of s.memory) (tapes_of s) InKernel (s.steps + 1) (s.traps + 1)) (ended_are (records_held s) is.head slot is.process status (risen s.traps))
+    ∙ ended_unix (records_held s) is.head slot is.process status (risen s.traps) (words_of s.memory) (tapes_of s) context s.steps s.traps p
+    may.sound.held.records is.is_head is.runs.there word refl live))
     ended settled)
 
 -- a process makes a call
@@ -212,10 +213,10 @@ call_made s new slot x may in_user is doable ended settled =
     user_trap_of s new slot is.process call_entered p in_user is.runs live
     (trap_made s new slot is.process x (call_entered u is.process.pid p) may.sound may.left may.few is.runs.there.there doable
     (λ done tapes served.
-        let made : IsDone (records_held s) (words_of s.memory) (tapes_of s) slot is.process (planned_call (records_held s) (words_of s.memory) slot (risen s.traps) is.head is.process s.bank) done tapes =
-            subst (λ (plan : Planned). IsDone (records_held s) (words_of s.memory) (tapes_of s) slot is.process plan done tapes) is.planned served in
-        entered_then (records_held s) (words_of s.memory) (tapes_of s) slot (risen s.traps) s.slice is.head is.process s.bank s.steps s.traps p done tapes
-            may.sound.held.records may.sound.held.on_terminals is.is_head is.runs.there live made)
+    let made : IsDone (records_held s) (words_of s.memory) (tapes_of s) slot is.process (planned_call (records_held s) (words_of s.memory) slot (risen s.traps) is.head is.process s.bank) done tapes =
+    subst (λ (plan : Planned). IsDone (records_held s) (words_of s.memory) (tapes_of s) slot is.process plan done tapes) is.planned served in
+    entered_then (records_held s) (words_of s.memory) (tapes_of s) slot (risen s.traps) s.slice is.head is.process s.bank s.steps s.traps p done tapes
+    may.sound.held.records may.sound.held.on_terminals is.is_head is.runs.there live made)
     ended settled)
 
 -- the head, and the plan of a trap of a process in the kernel
@@ -260,16 +261,18 @@ pub piece_made : (s new : PlantState) (slot : ℕ) (process : ProcRec) (x : Serv
     → IsTrapOf s new process.pid (piece_of (unix_at s) process.pid)
 piece_made s new slot process x may in_kernel is state of doable ended settled =
     let p = process_of (records_held s) (words_of s.memory) slot process in
-    let call = may.sound.held.in_writes.each slot process is state in
-    (p, live_at s slot process may.sound in_kernel is,
-    trap_made s new slot process x (piece_of (unix_at s) process.pid p) may.sound may.left may.few is.there doable
-    (λ done tapes served.
-        let made : IsDone (records_held s) (words_of s.memory) (tapes_of s) slot process (planned_piece (records_held s) (words_of s.memory) slot (risen s.traps) of.head process) done tapes =
-            subst (λ (plan : Planned). IsDone (records_held s) (words_of s.memory) (tapes_of s) slot process plan done tapes) of.planned served in
-        goes_on_then (records_held s) (words_of s.memory) (tapes_of s) slot (risen s.traps) of.head process s.steps s.traps p done tapes
-            may.sound.held.records may.sound.held.on_terminals of.is_head is state call (kernel_live s slot process may.sound is) made
-        ∙ ap (λ (u : Unix). piece_of u process.pid p) (kernel_unix s in_kernel))
-    ended settled)
+    let call = may.sound.held.in_writes.each slot process is state in (
+      p,
+      live_at s slot process may.sound in_kernel is,
+      trap_made s new slot process x (piece_of (unix_at s) process.pid p) may.sound may.left may.few is.there doable
+          (λ done tapes served.
+          let made : IsDone (records_held s) (words_of s.memory) (tapes_of s) slot process (planned_piece (records_held s) (words_of s.memory) slot (risen s.traps) of.head process) done tapes =
+          subst (λ (plan : Planned). IsDone (records_held s) (words_of s.memory) (tapes_of s) slot process plan done tapes) of.planned served in
+          goes_on_then (records_held s) (words_of s.memory) (tapes_of s) slot (risen s.traps) of.head process s.steps s.traps p done tapes
+          may.sound.held.records may.sound.held.on_terminals of.is_head is state call (kernel_live s slot process may.sound is) made
+          ∙ ap (λ (u : Unix). piece_of u process.pid p) (kernel_unix s in_kernel))
+          ended settled,
+    )
 
 -- a signal is taken
 pub record Signalled (s : PlantState) (slot : ℕ) (process : ProcRec) (items : List PatchItem) : Type 0 where
@@ -285,11 +288,11 @@ signalling_by : (r : Records) (slot trap : ℕ) (items : List PatchItem) (head :
     → r.sigs slot ≡ Some signals → next_signal process signals ≡ Some signal → IsSignalling r slot trap items → items ≡ signal_items head slot process signals signal trap
 signalling_by r slot trap items head process signals signal is_head there sigs next is =
     let by_head = subst (λ (held : Option HeadRec). IfSome held (λ head. IfSome (r.procs slot) (λ process. IfSome (r.sigs slot) (λ signals.
-        IfSome (signal_by process (r.sigs slot)) (λ signal. items ≡ signal_items head slot process signals signal trap))))) is_head is in
+    IfSome (signal_by process (r.sigs slot)) (λ signal. items ≡ signal_items head slot process signals signal trap))))) is_head is in
     let by_process = subst (λ (held : Option ProcRec). IfSome held (λ process. IfSome (r.sigs slot) (λ signals.
-        IfSome (signal_by process (r.sigs slot)) (λ signal. items ≡ signal_items head slot process signals signal trap)))) there by_head in
+    IfSome (signal_by process (r.sigs slot)) (λ signal. items ≡ signal_items head slot process signals signal trap)))) there by_head in
     let by_signals = subst (λ (held : Option SigRec). IfSome held (λ signals.
-        IfSome (signal_by process held) (λ signal. items ≡ signal_items head slot process signals signal trap))) sigs by_process in
+    IfSome (signal_by process held) (λ signal. items ≡ signal_items head slot process signals signal trap))) sigs by_process in
     subst (λ (held : Option ℕ). IfSome held (λ signal. items ≡ signal_items head slot process signals signal trap)) next by_signals
 
 pub signalling : (s b : PlantState) (slot : ℕ) (process : ProcRec) (signal : ℕ) (items : List PatchItem) → b ≡ begun s → IsSound s → IsIn (records_held s) slot process
@@ -321,13 +324,19 @@ signal_made s new slot process items may in_kernel is of ended settled =
     let words = words_of s.memory in
     let p = process_of r words slot process in
     let range = signal_range process of.signals of.signal of.next in
-    let goes : deliverable p ≡ Some of.signal = signal_is r words slot process of.signals of.there ∙ (ap (signal_by process) of.there ∙ of.next) in
-    (p, live_at s slot process may.sound in_kernel is, (of.signal, goes,
-    once_made s (begun s) new slot 1 items (signalled (unix_at s) process.pid p of.signal) refl (one_step s may.sound may.left) (one_trap s may.few) (begun_same s)
-    (ap (λ (items : List PatchItem). unix_of (with_items r items) words (tapes_of s) InKernel (s.steps + 1) (s.traps + 1)) of.are
-    ∙ (signal_unix r of.head slot process of.signals of.signal (risen s.traps) words (tapes_of s) s.steps s.traps may.sound.held.records of.is_head is of.there range.0 range.1
-    ∙ ap (λ (u : Unix). signalled u process.pid p of.signal) (kernel_unix s in_kernel)))
-    ended settled))
+    let goes : deliverable p ≡ Some of.signal = signal_is r words slot process of.signals of.there ∙ (ap (signal_by process) of.there ∙ of.next) in (
+      p,
+      live_at s slot process may.sound in_kernel is,
+      (
+        of.signal,
+        goes,
+        once_made s (begun s) new slot 1 items (signalled (unix_at s) process.pid p of.signal) refl (one_step s may.sound may.left) (one_trap s may.few) (begun_same s)
+            (ap (λ (items : List PatchItem). unix_of (with_items r items) words (tapes_of s) InKernel (s.steps + 1) (s.traps + 1)) of.are
+            ∙ (signal_unix r of.head slot process of.signals of.signal (risen s.traps) words (tapes_of s) s.steps s.traps may.sound.held.records of.is_head is of.there range.0 range.1
+            ∙ ap (λ (u : Unix). signalled u process.pid p of.signal) (kernel_unix s in_kernel)))
+            ended settled,
+      ),
+    )
 
 -- the head alone says that the trap is served
 pub record Served (s : PlantState) (items : List PatchItem) : Type 0 where
@@ -389,7 +398,7 @@ user_closed s new slot x sound few in_user of ended settled =
     once_made s (entered s came.Closing) new slot 0 items (closed (unix_at s)) refl (closing_steps s) (closing_traps s few) (record { shape = refl; points = refl; live = refl; history = refl })
     (ap (λ (n : ℕ). unix_of (with_items (records_held s) items) (words_of s.memory) (tapes_of s) InKernel n (s.traps + 1)) (let same : s.steps + 0 ≡ s.steps = omega arith in same)
     ∙ (closed_in_user (records_held s) of.head slot of.process s.bank (risen s.traps) (words_of s.memory) (tapes_of s) s.slice s.steps s.traps
-        sound.held.records of.is_head of.runs.there of.runs.outside
+    sound.held.records of.is_head of.runs.there of.runs.outside
     ∙ ap closed (user_unix s slot of.process in_user of.runs)))
     once settled
 

@@ -140,7 +140,7 @@ service_done b new slot steps process (service.TtyWrite tty from len patch) trap
     let tape : length (tapes_of b tty) ≡ length (tty_of b tty).tape = ap (λ (t : List ℕ). length t) (same_device b tty low) in
     let bytes : length (bytes_of b slot from len) ≡ len = length-bytes (pages_in (records_held b) (words_of b.memory) slot) from len in
     let room : length (tapes_of b tty) + length (bytes_of b slot from len) < 2 ^ 32 =
-        omega (arith, tape, bytes, doable.1.most, device.few, trap.counted, trap.budget, trap.most) in
+    omega (arith, tape, bytes, doable.1.most, device.few, trap.counted, trap.budget, trap.most) in
     write_done b new slot tty from len patch.items.items process there low
     (told_by_device b tty ((records_held b).terms tty) low (trap.terminals.records tty low)) room is
 
@@ -161,9 +161,9 @@ made_by s b new slot made plan after kernel steps traps same law (done, out, lef
     let is : IsCarrier b done = carrier b done slot plan out in
     let machine : IsSameMachine s (left_trap done) = same_machine s b done same is in
     let unix : unix_at (left_trap done) ≡ after =
-        unix_left b done is kernel
-        ∙ (ap (λ (n : ℕ). unix_of (records_held done) (words_of b.memory) (tapes_of done) InKernel n b.traps) steps
-        ∙ (ap (λ (n : ℕ). unix_of (records_held done) (words_of b.memory) (tapes_of done) InKernel (s.steps + made) n) traps ∙ law done out)) in
+    unix_left b done is kernel
+    ∙ (ap (λ (n : ℕ). unix_of (records_held done) (words_of b.memory) (tapes_of done) InKernel n b.traps) steps
+    ∙ (ap (λ (n : ℕ). unix_of (records_held done) (words_of b.memory) (tapes_of done) InKernel (s.steps + made) n) traps ∙ law done out)) in
     record {
       sound = sound;
       unix = ap (λ (p : PlantState). unix_at p) left ∙ unix;

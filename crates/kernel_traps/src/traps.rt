@@ -1,23 +1,21 @@
 //! The traps, each from its begin to its end.
-ghost use Rattle.std.specs.Prelude.{◌≡◌, ℕ, ◌+◌, ◌-◌, ◌^◌, ◌<◌, ◌≤◌, true, false, Some, is_some, IfSome, OnOk, OnErr};
+ghost use Rattle.std.specs.Prelude.{◌≡◌, ◌+◌, ◌-◌, ◌^◌, ◌<◌, ◌≤◌, true, false, Some, is_some, IfSome, OnOk, OnErr};
 ghost use Rattle.phys_memory.specs.Memory.{words_of};
 ghost use Rattle.ow_base.specs.declared.machine.Came.TheVariants as came;
-ghost use Rattle.record_layouts.specs.declared.proc.ProcRec.{ProcRec};
-ghost use Rattle.record_layouts.specs.Calls.{ended_as, entered, piece_of, trapped};
+ghost use Rattle.record_layouts.specs.Calls.{ended_as, entered, trapped};
 ghost use Rattle.record_layouts.specs.Turn.{closed, idled};
 ghost use Rattle.record_layouts.specs.Decode.{slot_by};
 ghost use Rattle.record_layouts.specs.Patch.{IsPatch};
-ghost use Rattle.record_layouts.specs.Sound.{IsIn};
 ghost use Rattle.record_layouts.specs.Spelling.{IsStatus};
-ghost use Rattle.process_table.specs.Choosing.{HasSignal, signal_by};
+ghost use Rattle.process_table.specs.Choosing.{HasSignal};
 ghost use Rattle.process_table.specs.Slots.{is_live_one};
 ghost use Rattle.process_table.specs.Patches.{IsSignalling, ended_items, saved_items};
-ghost use Rattle.syscalls.specs.Serving.{CanCall, IsDoable, IsInWrite, IsOutside};
+ghost use Rattle.syscalls.specs.Serving.{CanCall, IsDoable, IsInWrite};
 ghost use Rattle.syscalls.specs.Planned.{PlanOnce, planned_call, planned_piece};
 ghost use Rattle.ow_plant.specs.State.{now_of, risen};
 ghost use Rattle.intent_store.specs.Live.{records_held};
 ghost use Rattle.kernel_traps.specs.Plants.{IsHeldSound, IsSound, unix_at};
-ghost use Rattle.kernel_traps.specs.Traps.{HasSignalIn, IsCallerOf, IsCaughtIn, IsInCallIn, IsPieceTrap, IsPlanOf, IsSignalTrap, IsTrapMade, IsTrapOf, MayBeLeftOfIdle, MayBeLeftOfKernel, MayBeLeftOfSignal, MayBeLeftOfUser, served_items};
+ghost use Rattle.kernel_traps.specs.Traps.{HasSignalIn, IsCallerOf, IsCaughtIn, IsInCallIn, IsPieceTrap, IsPlanOf, IsSignalTrap, IsTrapMade, IsTrapOf, MayBeLeftOfCall, MayBeLeftOfFault, MayBeLeftOfIdle, MayBeLeftOfPiece, MayBeLeftOfSignal, MayBeLeftOfSlice, MayBeLeftOfUser, served_items};
 
 use crate::ending::end_trap;
 use intent_store::Live;
@@ -157,8 +155,7 @@ pub(crate) fn slice_trap(plant: &mut Plant) -> Result<(), Panicked>
     requires budget { plant.old.steps < plant.old.shape.budget }
     requires traps { plant.old.traps < 2 ^ 32 - 2 }
     ensures ok { OnOk result (IsTrapMade plant.old plant.new (trapped (unix_at plant.old) plant.old.user_pid) 1) }
-    ensures err { OnErr result (MayBeLeftOfUser plant.old came.User
-        (λ head slot process. PlanOnce (saved_items head slot process plant.old.bank (risen plant.old.traps))) plant.new) }
+    ensures err { OnErr result (MayBeLeftOfSlice plant.old plant.new) }
 {
     let pid = plant.user_pid();
     let bank = *plant.bank();
@@ -177,8 +174,7 @@ pub(crate) fn fault_trap(plant: &mut Plant, cause: u32) -> Result<(), Panicked>
     requires cause { IsStatus (0x200 + cause) }
     ensures ok { OnOk result (IsTrapOf plant.old plant.new plant.old.user_pid
         (λ p. ended_as (trapped (unix_at plant.old) plant.old.user_pid) plant.old.user_pid p (0x200 + cause))) }
-    ensures err { OnErr result (MayBeLeftOfUser plant.old came.User
-        (λ head slot process. PlanOnce (ended_items head slot process (0x200 + cause) (risen plant.old.traps))) plant.new) }
+    ensures err { OnErr result (MayBeLeftOfFault plant.old cause plant.new) }
 {
     let pid = plant.user_pid();
     plant.enter(Came::User, pid);
@@ -194,8 +190,7 @@ pub(crate) fn call_trap(plant: &mut Plant) -> Result<(), Panicked>
     requires budget { plant.old.steps < plant.old.shape.budget }
     requires traps { plant.old.traps < 2 ^ 32 - 2 }
     ensures ok { OnOk result (IsTrapOf plant.old plant.new plant.old.user_pid (entered (unix_at plant.old) plant.old.user_pid)) }
-    ensures err { OnErr result (MayBeLeftOfUser plant.old came.Call
-        (λ head slot process. planned_call (records_held plant.old) (words_of plant.old.memory) slot (risen plant.old.traps) head process plant.old.bank) plant.new) }
+    ensures err { OnErr result (MayBeLeftOfCall plant.old plant.new) }
 {
     let pid = plant.user_pid();
     let bank = *plant.bank();
@@ -213,8 +208,7 @@ pub(crate) fn piece_trap(plant: &mut Plant, slot: u32) -> Result<(), Panicked>
     requires traps { plant.old.traps < 2 ^ 32 - 2 }
     requires inside { IsInCallIn (records_held plant.old) slot }
     ensures ok { OnOk result (IsPieceTrap plant.old plant.new slot) }
-    ensures err { OnErr result (MayBeLeftOfKernel plant.old slot
-        (λ head process. planned_piece (records_held plant.old) (words_of plant.old.memory) slot (risen plant.old.traps) head process) plant.new) }
+    ensures err { OnErr result (MayBeLeftOfPiece plant.old slot plant.new) }
 {
     let mut before = Live::new(plant);
     let pid = pid_in(&mut before, slot);

@@ -16,4 +16,4 @@ pub returns-clause-ok : goal.returns-clause-ok
 returns-clause-ok c =
     made_ok c.end_trap.result (begun c.args.plant.now) c.plant-2-1.given.0 c.end_trap.new.plant c.args.slot (plan_of c.going_on-service.result) _ (search rules) c.end_trap.ensures.ok c.end_trap.ensures.sound
     (piece_made_then c.args.plant.now c.new-live.result.plant.now c.end_trap.new.plant c.args.slot c.going_on-service.result (search rules) (record { sound = c.requires.sound; left = c.requires.budget; few = c.requires.traps })
-        c.requires.in_kernel c.requires.inside c.going_on-service.ensures.plan c.going_on-service.ensures.doable)
+    c.requires.in_kernel c.requires.inside c.going_on-service.ensures.plan c.going_on-service.ensures.doable)

@@ -18,4 +18,4 @@ returns-clause-ok c =
     let items = c.signalling-patch.result.items.items in
     made_ok c.end_trap.result (begun c.args.plant.now) c.plant-2-1.given.0 c.end_trap.new.plant c.args.slot (PlanOnce items) _ (search rules) c.end_trap.ensures.ok c.end_trap.ensures.sound
     (signal_made_then c.args.plant.now c.new-live.result.plant.now c.end_trap.new.plant c.args.slot items (search rules) (record { sound = c.requires.sound; left = c.requires.budget; few = c.requires.traps })
-        c.requires.in_kernel c.requires.signal c.signalling-patch.ensures.items)
+    c.requires.in_kernel c.requires.signal c.signalling-patch.ensures.items)
