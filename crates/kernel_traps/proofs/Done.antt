@@ -1,5 +1,5 @@
 -- What is held once a write is carried out is what the call asked for.
-use Rattle.std.proofs.Common.{◌≡◌, ◌≢◌, ◌∙◌, ◌==◌, ◌+◌, ◌*◌, ◌/◌, ◌^◌, ◌-◌, ◌<◌, ◌≤◌, min, ℕ, zero, suc, List, [], ◌∷◌, ◌++◌, length, Option, Some, None, IfSome, refl, sym, ap, subst, arith, length-append}
+use Rattle.std.proofs.Common.{◌≡◌, ◌≢◌, ◌∙◌, ◌+◌, ◌^◌, ◌<◌, ℕ, zero, suc, List, [], ◌∷◌, ◌++◌, length, Option, Some, None, IfSome, refl, sym, ap, subst, arith, length-append}
 use Rattle.std.proofs.lemmas.Bool.Decides.{nat_tests}
 use Rattle.std.proofs.lemmas.Grind.{common_steps}
 use Rattle.ow_base.specs.Pages.{bytes_at}
@@ -7,26 +7,26 @@ use Rattle.phys_memory.specs.Memory.{words_of}
 use Rattle.record_layouts.specs.declared.term.TermRec.{TermRec}
 use Rattle.record_layouts.specs.declared.proc.ProcRec.{ProcRec}
 use Rattle.record_layouts.specs.declared.patch.PatchItem.{PatchItem}
-use Rattle.record_layouts.specs.Held.{Held, patched}
+use Rattle.record_layouts.specs.Held.{Held}
 use Rattle.record_layouts.specs.Decode.{tape_by}
 use Rattle.syscalls.specs.Done.{AreCounted as IsTold, AreCountedBy, AreWritten, IsDone}
 use Rattle.syscalls.specs.Planned.{PlanWrite, pages_if}
 use Rattle.ow_plant.specs.State.{PlantState, risen}
 use Rattle.intent_store.specs.Live.{held_of, records_held, rest_of}
 use Rattle.kernel_traps.specs.Plants.{tapes_of}
-use Rattle.kernel_traps.specs.Putting.{AreCounted, CountsBytes, IsPut, counted_after, with_puts}
-use Rattle.kernel_traps.specs.Carrying.{IsCarriedOut, IsWritten, bytes_of}
+use Rattle.kernel_traps.specs.Putting.{AreCounted, CountsBytes, counted_after, with_puts}
+use Rattle.kernel_traps.specs.Carrying.{IsCarriedOut, bytes_of}
 
 own_tape : (s : PlantState) (tty : ℕ) (bytes : List ℕ) → tty < 2 → tapes_of (with_puts s tty bytes) tty ≡ tapes_of s tty ++ bytes
 own_tape s zero bytes low = refl
 own_tape s (suc zero) bytes low = refl
-own_tape s (suc (suc n)) bytes low = absurd (omega (arith, low))
+own_tape s (suc (suc n)) bytes low = absurd (omega arith)
 
 other_tape : (s : PlantState) (tty other : ℕ) (bytes : List ℕ) → tty < 2 → other ≢ tty → tapes_of (with_puts s tty bytes) other ≡ tapes_of s other
 other_tape s tty other bytes low apart = grind (arith, nat_tests, common_steps, apart)
 
 -- a count that does not stand still
-counted_is : (written : ℕ) (bytes : List ℕ) → written + length bytes < 2 ^ 32 → counted_after written bytes ≡ written + length bytes
+pub counted_is : (written : ℕ) (bytes : List ℕ) → written + length bytes < 2 ^ 32 → counted_after written bytes ≡ written + length bytes
 counted_is written [] small = omega arith
 counted_is written (byte ∷ bytes) small =
     let on : risen written ≡ written + 1 = omega arith in
@@ -39,11 +39,10 @@ tape_counted tape terminal counted = grind (arith, nat_tests, counted)
 told : (bytes tape : List ℕ) (before after : TermRec) → before.written ≡ length tape → length tape + length bytes < 2 ^ 32 → CountsBytes bytes before after
     → IsTold bytes tape (tape ++ bytes) before after
 told bytes tape before after counted small counts =
-    let long : length (tape ++ bytes) ≡ length tape + length bytes = length-append tape bytes in
-    let so_many : after.written ≡ before.written + length bytes = counts.written ∙ counted_is before.written bytes (omega (arith, counted, small)) in
-    let now : after.written ≡ length (tape ++ bytes) = omega (arith, counted, long, so_many) in
+    let more : length (tape ++ bytes) ≡ length tape + length bytes = length-append tape bytes in
+    let now : after.written ≡ length (tape ++ bytes) = counts.written ∙ counted_is before.written bytes (omega (arith, counted)) ∙ omega (arith, counted, more) in
     record {
-      written = omega (arith, counted, so_many, small);
+      written = omega (arith, counted, now, more);
       consumed = counts.consumed;
       base = counts.base;
       decoded = tape_counted (tape ++ bytes) after now ∙ ap (λ (t : List ℕ). t ++ bytes) (sym (tape_counted tape before counted));

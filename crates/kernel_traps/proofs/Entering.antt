@@ -1,5 +1,5 @@
 -- A trap begins on a sound plant.
-use Rattle.std.proofs.Common.{◌≡◌, ◌+◌, ◌-◌, ◌^◌, ◌<◌, ◌≤◌, ℕ, true, false, refl, arith}
+use Rattle.std.proofs.Common.{◌-◌, ◌^◌, ◌<◌, true, false, refl, arith}
 use Rattle.ow_base.specs.declared.machine.Came.TheVariants as came
 use Rattle.ow_plant.specs.State.{PlantState, entered, risen}
 use Rattle.kernel_traps.specs.Plants.{IsHeldSound, IsInTrap, IsSound}

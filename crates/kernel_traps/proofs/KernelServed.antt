@@ -1,11 +1,10 @@
 -- A turn where no process is in user mode, by what is chosen.
-use Rattle.std.proofs.Common.{◌≡◌, ◌∙◌, ◌⊎◌, ◌==◌, ◌&&◌, ◌||◌, ◌+◌, ◌<◌, ℕ, Bool, true, false, nat_lt, if◌then◌else◌, Option, Some, None, is_some, Result, Ok, Err, IfOk, inl, inr, refl, sym, ap, subst, arith}
+use Rattle.std.proofs.Common.{◌≡◌, ◌∙◌, ◌⊎◌, ◌==◌, ◌+◌, ◌<◌, ℕ, true, false, Option, Some, None, Result, Ok, Err, IfOk, inl, inr, refl, sym, ap, subst, arith}
 use Rattle.std.proofs.lemmas.Bool.{cases_Bool}
 use Rattle.std.proofs.lemmas.Bool.Decides.{nat_tests}
 use Rattle.ow_base.specs.declared.machine.Now.{Now}
 use Rattle.phys_memory.specs.Memory.{words_of}
 use Rattle.record_layouts.specs.declared.proc.ProcRec.{ProcRec}
-use Rattle.record_layouts.specs.declared.sig.SigRec.{SigRec}
 use Rattle.record_layouts.specs.Calls.{piece_of}
 use Rattle.record_layouts.specs.Choice.{deliverable, no_keys}
 use Rattle.record_layouts.specs.Decode.{call_of, process_of}
@@ -14,13 +13,13 @@ use Rattle.record_layouts.specs.Pages.{is_live}
 use Rattle.record_layouts.specs.Signals.{signalled}
 use Rattle.record_layouts.specs.Sound.{IsIn}
 use Rattle.record_layouts.specs.Turn.{idled, turn, turn_at}
-use Rattle.record_layouts.specs.Unix.{AtUser, CallState, In, Out, Process, Unix}
-use Rattle.process_table.specs.Choosing.{IsChosen, IsNext, IsNone, IsRest, IsWork, is_ready, is_ready_one, signal_by, work_of}
+use Rattle.record_layouts.specs.Unix.{AtUser, In, Out, Process, Unix}
+use Rattle.process_table.specs.Choosing.{IsChosen, IsNext, IsRest, IsWork, is_ready, is_ready_one, signal_by, work_of}
 use Rattle.process_table.specs.declared.choice.Choice.{Choice}
 use Rattle.process_table.specs.declared.choice.Choice.TheVariants as choice
 use Rattle.process_table.proofs.Running.{signal_is}
 use Rattle.process_table.proofs.Seats.{one_process}
-use Rattle.ow_plant.specs.State.{PlantState, now_of, returned_to}
+use Rattle.ow_plant.specs.State.{PlantState, now_of}
 use Rattle.intent_store.specs.Live.{records_held}
 use Rattle.kernel_traps.specs.Plants.{IsSound, unix_at}
 use Rattle.kernel_traps.specs.Turning.{AllHaveEnded, IsTurn, IsTurned}
@@ -29,7 +28,7 @@ use Rattle.kernel_traps.specs.User.{IsOutside, IsReturned}
 use Rattle.kernel_traps.specs.declared.turns.Turn.{Turn}
 use Rattle.kernel_traps.specs.declared.turns.Turn.TheVariants as turns
 use Rattle.kernel_traps.proofs.TrapKinds.{live_at}
-use Rattle.kernel_traps.proofs.TurnUnix.{at_process, chosen_of, idle_turn, none_of, not_ended, piece_turn, rest_tells, return_turn, signal_turn, turned, user_turn_is}
+use Rattle.kernel_traps.proofs.TurnUnix.{chosen_of, idle_turn, none_of, not_ended, piece_turn, rest_tells, return_turn, signal_turn, turned, user_turn_is}
 use Rattle.kernel_traps.proofs.UserServed.{one_live}
 
 -- who is chosen is live

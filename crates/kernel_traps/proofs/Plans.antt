@@ -1,5 +1,5 @@
 -- Each plan of a trap ends it.
-use Rattle.std.proofs.Common.{◌≡◌, ◌≢◌, ◌∙◌, ◌⊎◌, ◌==◌, ◌+◌, ◌-◌, ◌*◌, ◌%◌, ◌<◌, ◌≤◌, ℕ, nat_lt, not, if◌then◌else◌, Bool, true, false, List, [], ◌∷◌, length, All, Option, Some, None, IfSome, inl, inr, refl, sym, ap, subst, arith}
+use Rattle.std.proofs.Common.{◌≡◌, ◌∙◌, ◌==◌, ◌+◌, ◌%◌, ◌<◌, ℕ, nat_lt, true, List, [], ◌∷◌, length, Option, Some, None, IfSome, inl, inr, refl, sym, ap, subst, arith}
 use Rattle.std.proofs.lemmas.Bool.{cases_Bool}
 use Rattle.std.proofs.lemmas.Bool.Decides.{nat_tests}
 use Rattle.std.proofs.lemmas.List.Elements.{All-cons, All-nil}
@@ -12,13 +12,12 @@ use Rattle.record_layouts.specs.declared.head.HeadRec.{HeadRec}
 use Rattle.record_layouts.specs.declared.proc.ProcRec.{ProcRec}
 use Rattle.record_layouts.specs.declared.sig.SigRec.{SigRec}
 use Rattle.record_layouts.specs.declared.desc.DescRec.{DescRec}
-use Rattle.record_layouts.specs.declared.exit.ExitRec.{ExitRec}
 use Rattle.record_layouts.specs.declared.patch.PatchItem.{PatchItem}
 use Rattle.record_layouts.specs.declared.places.RecordId.TheVariants as id
 use Rattle.record_layouts.specs.declared.patch.AnyRec.TheVariants as any
 use Rattle.record_layouts.specs.Calls.{tty_piece}
 use Rattle.record_layouts.specs.Held.{Records, with_items}
-use Rattle.record_layouts.specs.Pages.{is_live, pages_of}
+use Rattle.record_layouts.specs.Pages.{pages_of}
 use Rattle.record_layouts.specs.Spelling.{IsStatus}
 use Rattle.record_layouts.specs.Head.{FitsHead}
 use Rattle.record_layouts.specs.Decode.{next_by}
@@ -30,9 +29,9 @@ use Rattle.process_table.proofs.Endings.{ended_are}
 use Rattle.process_table.proofs.Kept.{AllWere, calls_stay, kin_itself, mapped_stay}
 use Rattle.process_table.proofs.Running.{signal_range}
 use Rattle.process_table.proofs.Saving.{saved_sound}
-use Rattle.process_table.proofs.Signalling.{signal_are, signal_ends, signal_sound}
+use Rattle.process_table.proofs.Signalling.{signal_sound}
 use Rattle.syscalls.specs.Done.{KeepsSound}
-use Rattle.syscalls.specs.Planned.{Planned, PlanOnce, PlanWrite, answered_process, argument_of, caller_with, is_written, items_of, named, planned_answer, planned_call, planned_further, planned_number, planned_piece, planned_tty, planned_write, planned_write_on, staying_process, stopped_answer, written_process, yielded_process}
+use Rattle.syscalls.specs.Planned.{Planned, PlanOnce, answered_process, argument_of, caller_with, is_written, items_of, named, planned_answer, planned_call, planned_further, planned_number, planned_piece, planned_tty, planned_write, planned_write_on, staying_process, stopped_answer, written_process, yielded_process}
 use Rattle.syscalls.proofs.Naming.{InWrite, in_write}
 use Rattle.syscalls.proofs.KeptSound.{call_keeps}
 use Rattle.syscalls.proofs.Exported.{further_keeps, writes_on}

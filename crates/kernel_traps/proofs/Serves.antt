@@ -1,20 +1,20 @@
 -- Records of which the head alone says that a trap is served: they stand for the same state.
-use Rattle.std.proofs.Common.{◌≡◌, ◌∙◌, ◌+◌, ◌&&◌, ◌==◌, ℕ, Bool, true, if◌then◌else◌, List, Option, Some, None, is_some, refl, sym, ap}
+use Rattle.std.proofs.Common.{◌≡◌, ◌∙◌, ◌+◌, ℕ, if◌then◌else◌, List, Option, Some, None, refl, sym, ap}
 use Rattle.ow_base.specs.Sv32.{WordMap}
 use Rattle.ow_base.specs.declared.machine.Bank.{Bank}
 use Rattle.record_layouts.specs.declared.head.HeadRec.{HeadRec}
 use Rattle.record_layouts.specs.declared.proc.ProcRec.{ProcRec}
-use Rattle.record_layouts.specs.Unix.{AtKernel, EndedChild, Process, Unix, in_use}
+use Rattle.record_layouts.specs.Unix.{AtKernel, Process, Unix, in_use}
 use Rattle.record_layouts.specs.Calls.{trapped}
 use Rattle.record_layouts.specs.Choice.{least_from}
 use Rattle.record_layouts.specs.Turn.{closed, idled}
 use Rattle.record_layouts.specs.Held.{Records, with_items}
-use Rattle.record_layouts.specs.Pages.{is_live, is_mapped}
-use Rattle.record_layouts.specs.Decode.{InKernel, InUser, decodes, description_by, ended_by, ended_in, ended_of, is_ended_as, is_number, last_by, next_by, pid_in, process_at, process_by, process_in, process_of, processes_of, slot_by, status_by, terminal_by, unix_of}
+use Rattle.record_layouts.specs.Pages.{is_mapped}
+use Rattle.record_layouts.specs.Decode.{InKernel, InUser, decodes, description_by, ended_in, ended_of, is_ended_as, is_number, last_by, next_by, pid_in, process_at, process_by, process_in, process_of, processes_of, slot_by, status_by, terminal_by, unix_of}
 use Rattle.record_layouts.specs.Sound.{IsIn, AreSound}
 use Rattle.process_table.specs.Patches.{saved_items}
 use Rattle.process_table.proofs.Saving.{saved_unix}
-use Rattle.syscalls.proofs.Altered.{altered, decoded_stays, mapped_stays}
+use Rattle.syscalls.proofs.Altered.{decoded_stays, mapped_stays}
 use Rattle.kernel_traps.specs.Traps.{served_items}
 use Rattle.kernel_traps.proofs.Plans.{served_records}
 

@@ -1,6 +1,5 @@
 -- The kinds of trap: each plan ends its trap, and makes of the state what the Unix makes of it.
-use Rattle.std.proofs.Common.{◌≡◌, ◌∙◌, ◌+◌, ◌-◌, ◌^◌, ◌<◌, ◌≤◌, ℕ, true, false, List, length, Option, Some, None, IfSome, OnOk, OnErr, Result, Ok, Err, is_some, refl, sym, ap, subst, arith}
-use Rattle.ow_base.specs.Sv32.{WordMap}
+use Rattle.std.proofs.Common.{◌≡◌, ◌∙◌, ◌+◌, ◌-◌, ◌^◌, ◌<◌, ◌≤◌, ℕ, true, false, List, Option, Some, None, IfSome, OnOk, Result, Ok, Err, is_some, refl, sym, ap, subst, arith}
 use Rattle.phys_memory.specs.Memory.{words_of}
 use Rattle.ow_base.specs.declared.machine.Bank.{Bank}
 use Rattle.ow_base.specs.declared.machine.Came.TheVariants as came
@@ -11,7 +10,7 @@ use Rattle.record_layouts.specs.declared.patch.PatchItem.{PatchItem}
 use Rattle.record_layouts.specs.Calls.{ended_as, entered as call_entered, piece_of, trapped}
 use Rattle.record_layouts.specs.Decode.{InKernel, InUser, process_of, processes_of, slot_by, unix_of}
 use Rattle.record_layouts.specs.Held.{Records, with_items}
-use Rattle.record_layouts.specs.Sound.{IsIn, AreSound}
+use Rattle.record_layouts.specs.Sound.{IsIn}
 use Rattle.record_layouts.specs.Spelling.{IsStatus}
 use Rattle.record_layouts.specs.Unix.{Unix, Process}
 use Rattle.record_layouts.specs.Choice.{deliverable}
@@ -19,7 +18,6 @@ use Rattle.record_layouts.specs.Turn.{closed, idled}
 use Rattle.record_layouts.specs.Signals.{signalled}
 use Rattle.process_table.specs.Choosing.{next_signal, signal_by}
 use Rattle.process_table.specs.Patches.{IsSignalling, ended_items, saved_items, signal_items}
-use Rattle.process_table.proofs.Ended.{live_fits}
 use Rattle.process_table.proofs.Endings.{ended_are}
 use Rattle.process_table.proofs.EndedUnix.{ended_unix}
 use Rattle.process_table.proofs.Saving.{saved_unix}
@@ -29,14 +27,14 @@ use Rattle.process_table.proofs.Seats.{found_in, pid_range}
 use Rattle.syscalls.specs.declared.service.Service.{Service}
 use Rattle.syscalls.specs.declared.service.Service.TheVariants as service
 use Rattle.syscalls.specs.Done.{IsDone}
-use Rattle.syscalls.specs.Planned.{Planned, PlanOnce, PlanWrite, planned_call, planned_piece}
-use Rattle.syscalls.specs.Serving.{CanCall, IsDoable, plan_of}
+use Rattle.syscalls.specs.Planned.{Planned, PlanOnce, planned_call, planned_piece}
+use Rattle.syscalls.specs.Serving.{IsDoable, plan_of}
 use Rattle.syscalls.proofs.Becoming.{caller_decodes}
-use Rattle.syscalls.proofs.Exported.{can_call, entered_then, goes_on_then}
-use Rattle.ow_plant.specs.State.{PlantState, entered, left_trap, now_of, risen}
+use Rattle.syscalls.proofs.Exported.{entered_then, goes_on_then}
+use Rattle.ow_plant.specs.State.{PlantState, entered, now_of, risen}
 use Rattle.intent_store.specs.Live.{records_held}
 use Rattle.kernel_traps.specs.Plants.{IsInTrap, IsRunning, IsSound, tapes_of, unix_at}
-use Rattle.kernel_traps.specs.Ending.{CanBeServed, EndsTrap, HasStep, IsEnded, MayBeLeftOfTrap}
+use Rattle.kernel_traps.specs.Ending.{EndsTrap, HasStep, IsEnded}
 use Rattle.kernel_traps.specs.Traps.{HasSignalIn, IsCaughtIn, IsInCallIn, IsPieceTrap, IsSignalTrap, IsLiveAs, IsPlanOf, IsSignalTaken, IsTrapMade, IsTrapOf, served_items}
 use Rattle.kernel_traps.proofs.Entering.{begun, begins, closing_begins}
 use Rattle.kernel_traps.proofs.Serves.{closed_in_user, closed_unix, idle_unix}

@@ -1,30 +1,22 @@
 -- What a plant stands for once the plan of a trap is carried out and the trap has ended.
-use Rattle.std.proofs.Common.{◌≡◌, ◌∙◌, ◌==◌, ◌+◌, ◌-◌, ◌*◌, ◌^◌, ◌<◌, ◌≤◌, ℕ, zero, suc, if◌then◌else◌, true, false, List, [], ◌∷◌, ◌++◌, length, Option, Some, None, IfSome, refl, sym, ap, subst, arith}
-use Rattle.std.proofs.lemmas.Bool.Decides.{nat_tests}
-use Rattle.std.proofs.lemmas.Grind.{common_steps}
+use Rattle.std.proofs.Common.{◌≡◌, ◌∙◌, ◌==◌, ◌+◌, ◌-◌, ◌^◌, ◌<◌, ℕ, zero, suc, false, List, length, Option, Some, None, IfSome, refl, sym, ap, arith}
 use Rattle.std.proofs.lemmas.Bool.{cases_Bool}
 use Rattle.std.proofs.Common.{inl, inr}
 use Rattle.ow_base.specs.Pages.{Pages, bytes_at}
-use Rattle.ow_base.specs.Sv32.{WordMap}
 use Rattle.phys_memory.specs.Memory.{words_of}
-use Rattle.ow_base.specs.declared.machine.AreaId.{AreaId}
-use Rattle.ow_base.specs.declared.machine.Came.TheVariants as came
-use Rattle.ow_base.specs.declared.machine.Shape.{Shape}
-use Rattle.ow_base.specs.declared.worlds.PanicRecord.{PanicRecord}
-use Rattle.ow_plant.specs.declared.points.PanicPoint.{PanicPoint}
 use Rattle.record_layouts.specs.declared.memory_map.MemoryMap.{MemoryMap}
 use Rattle.record_layouts.specs.declared.proc.ProcRec.{ProcRec}
 use Rattle.record_layouts.specs.declared.term.TermRec.{TermRec}
 use Rattle.record_layouts.specs.declared.patch.PatchItem.{PatchItem}
-use Rattle.record_layouts.specs.Held.{Held, Records, beside, patched, with_items}
-use Rattle.record_layouts.specs.Decode.{Context, InKernel, InUser, unix_of}
+use Rattle.record_layouts.specs.Held.{Held, Records, beside, with_items}
+use Rattle.record_layouts.specs.Decode.{InKernel, unix_of}
 use Rattle.record_layouts.specs.Unix.{Unix}
 use Rattle.syscalls.specs.declared.service.Service.{Service}
 use Rattle.syscalls.specs.declared.service.Service.TheVariants as service
 use Rattle.syscalls.specs.Done.{IsDone}
 use Rattle.syscalls.specs.Planned.{Planned, PlanOnce, PlanWrite, pages_in}
 use Rattle.syscalls.specs.Serving.{IsDoable, plan_of}
-use Rattle.ow_plant.specs.State.{PlantState, entered, left_trap, risen, tty_of}
+use Rattle.ow_plant.specs.State.{PlantState, left_trap, tty_of}
 use Rattle.intent_store.specs.Live.{held_of, map_of, records_held, rest_of}
 use Rattle.kernel_traps.specs.Plants.{IsInTrap, IsOfDevice, IsSound, context_of, tapes_of, unix_at}
 use Rattle.kernel_traps.specs.Putting.{with_puts}

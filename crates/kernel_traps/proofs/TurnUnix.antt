@@ -1,28 +1,25 @@
 -- What a turn of the Unix is, by what the kernel does.
-use Rattle.std.proofs.Common.{◌≡◌, ◌∙◌, ◌⊎◌, ◌==◌, ◌+◌, ◌-◌, ◌<◌, ℕ, zero, suc, nat_lt, if◌then◌else◌, Bool, true, false, List, [], ◌∷◌, slice_index, Option, Some, None, is_some, inl, inr, refl, sym, ap, subst, arith}
+use Rattle.std.proofs.Common.{◌≡◌, ◌∙◌, ◌==◌, ◌+◌, ◌-◌, ℕ, zero, suc, nat_lt, Bool, true, false, [], ◌∷◌, slice_index, Option, Some, None, is_some, inl, inr, refl, sym, ap}
 use Rattle.std.proofs.lemmas.Bool.{cases_Bool}
-use Rattle.std.proofs.lemmas.Bool.Decides.{nat_tests}
 use Rattle.ow_base.specs.UserStep.{Call, Faulted}
 use Rattle.ow_base.specs.declared.machine.Bank.{Bank}
 use Rattle.ow_base.specs.declared.machine.Fault.{Fault}
-use Rattle.ow_base.specs.declared.machine.Now.{Now}
 use Rattle.phys_memory.specs.Memory.{words_of}
 use Rattle.record_layouts.specs.declared.proc.ProcRec.{ProcRec}
 use Rattle.record_layouts.specs.Calls.{ended_as, entered, piece_of, trapped}
 use Rattle.record_layouts.specs.Choice.{Keys, chosen, deliverable, is_any_live, live_or, no_keys, returned_as, returned_to as unix_returned_to, settled, settled_at, settled_on}
-use Rattle.record_layouts.specs.Decode.{Context, InKernel, InUser, call_of, next_by, process_at, process_of, processes_of, unix_of, with_bank}
-use Rattle.record_layouts.specs.Held.{Records}
+use Rattle.record_layouts.specs.Decode.{Context, InKernel, InUser, next_by, process_at, processes_of, unix_of, with_bank}
 use Rattle.record_layouts.specs.Signals.{signalled}
 use Rattle.record_layouts.specs.Sound.{IsIn, AreSound}
 use Rattle.record_layouts.specs.Turn.{idled, served_if_live, served_or_idle, signal_or_piece, step_of, stepped, turn, turn_at, user_turn}
-use Rattle.record_layouts.specs.Unix.{AtKernel, AtUser, CallState, In, Out, Process, Unix}
-use Rattle.process_table.specs.Choosing.{IsChosen, IsNone, IsRest, IsWork, keys_of}
+use Rattle.record_layouts.specs.Unix.{AtKernel, AtUser, In, Out, Process, Unix}
+use Rattle.process_table.specs.Choosing.{IsChosen, IsNone, IsRest, keys_of}
 use Rattle.process_table.specs.Slots.{has_such, is_live_one}
 use Rattle.process_table.proofs.Chosen.{any_live_is, chosen_is, none_chosen}
 use Rattle.process_table.proofs.Holding.{such_found}
 use Rattle.ow_plant.specs.State.{PlantState, now_of}
 use Rattle.intent_store.specs.Live.{records_held}
-use Rattle.kernel_traps.specs.Plants.{IsRunning, IsSound, context_of, tapes_of, unix_at}
+use Rattle.kernel_traps.specs.Plants.{IsSound, context_of, tapes_of, unix_at}
 use Rattle.kernel_traps.specs.Turning.{AllHaveEnded, IsTurned}
 use Rattle.kernel_traps.specs.Traps.{IsLiveAs, IsTrapMade}
 use Rattle.kernel_traps.proofs.TrapKinds.{kernel_unix}

@@ -1,10 +1,9 @@
 -- A turn in user mode, by what the process came to.
-use Rattle.std.proofs.Common.{◌≡◌, ◌∙◌, ◌+◌, ℕ, true, false, nat_lt, Option, Some, refl, sym, ap, subst}
-use Rattle.ow_base.specs.UserStep.{Call, Faulted}
+use Rattle.std.proofs.Common.{◌≡◌, ◌∙◌, ◌+◌, ℕ, Some, sym, subst}
 use Rattle.ow_base.specs.declared.machine.Fault.{Fault}
 use Rattle.record_layouts.specs.Calls.{ended_as, entered, trapped}
 use Rattle.record_layouts.specs.Choice.{no_keys}
-use Rattle.record_layouts.specs.Turn.{step_of, turn_at}
+use Rattle.record_layouts.specs.Turn.{turn_at}
 use Rattle.record_layouts.specs.Unix.{AtUser, Process, Unix}
 use Rattle.ow_plant.specs.State.{PlantState}
 use Rattle.ow_plant.specs.declared.UserEnd.TheVariants as end

@@ -83,8 +83,8 @@ pub record IsInTrap (s : PlantState) (steps : ℕ) : Type 0 where
   pub a_trap_runs : s.in_trap ≡ true
   pub in_kernel : s.in_user ≡ false
   pub served : IfSome (records_held s).head (λ head. head.served < s.traps)
+  pub fits : s.traps < 2 ^ 32 - 1
   pub counted : steps ≤ s.steps
   pub terminals : AreTerminalsSound s steps
   pub budget : s.steps ≤ s.shape.budget
   pub most : s.shape.budget ≤ 2000000
-  pub fits : s.traps < 2 ^ 32 - 1

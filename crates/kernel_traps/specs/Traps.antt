@@ -1,5 +1,5 @@
 -- What the kinds of trap make of a plant, and what a refusal may leave of each.
-use Rattle.std.specs.Prelude.{◌≡◌, ℕ, ◌+◌, ◌≤◌, ◌⊎◌, true, false, nat_lt, List, [], ◌∷◌, Option, Some, IfSome, Result, Ok}
+use Rattle.std.specs.Prelude.{◌≡◌, ℕ, ◌+◌, ◌≤◌, ◌⊎◌, true, false, nat_lt, List, [], ◌∷◌, Some, IfSome, Result, Ok}
 use Rattle.ow_base.specs.UserStep.{Call, Faulted}
 use Rattle.ow_base.specs.declared.machine.Came.{Came}
 use Rattle.ow_base.specs.declared.machine.Came.TheVariants as came
