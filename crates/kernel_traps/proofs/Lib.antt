@@ -28,3 +28,11 @@ pub mod BootFrames
 pub mod BootUnix
 pub mod BootSound
 pub mod BootWorlds
+pub mod Stays
+pub mod Plans
+pub mod Serves
+pub mod TrapUnix
+pub mod TrapKinds
+pub mod TurnUnix
+pub mod UserServed
+pub mod KernelServed

@@ -13,3 +13,4 @@ pub mod BootRecords
 pub mod BootPages
 pub mod BootTables
 pub mod BootState
+pub mod Traps

@@ -3,10 +3,15 @@
 #![tactic(auto)]
 
 mod booting;
+mod ended;
 mod ending;
 mod services;
+mod serving;
+mod traps;
 mod turns;
 mod user;
 
 pub use booting::{boot, worlds_can_boot};
+pub use ended::all_have_ended;
+pub use serving::{serve_trap, shutdown};
 pub use turns::Turn;

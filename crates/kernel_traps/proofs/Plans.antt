@@ -1,0 +1,296 @@
+-- Each plan of a trap ends it.
+use Rattle.std.proofs.Common.{◌≡◌, ◌∙◌, ◌==◌, ◌+◌, ◌%◌, ◌<◌, ℕ, nat_lt, true, List, [], ◌∷◌, length, Option, Some, None, IfSome, inl, inr, refl, sym, ap, subst, arith}
+use Rattle.std.proofs.lemmas.Bool.{cases_Bool}
+use Rattle.std.proofs.lemmas.Bool.Decides.{nat_tests}
+use Rattle.std.proofs.lemmas.List.Elements.{All-cons, All-nil}
+use Rattle.ow_base.specs.Sv32.{WordMap}
+use Rattle.ow_base.specs.Words.{minus, updated}
+use Rattle.ow_base.specs.Pages.{Pages, is_readable}
+use Rattle.ow_base.specs.UserStep.{register}
+use Rattle.ow_base.specs.declared.machine.Bank.{Bank}
+use Rattle.record_layouts.specs.declared.head.HeadRec.{HeadRec}
+use Rattle.record_layouts.specs.declared.proc.ProcRec.{ProcRec}
+use Rattle.record_layouts.specs.declared.sig.SigRec.{SigRec}
+use Rattle.record_layouts.specs.declared.desc.DescRec.{DescRec}
+use Rattle.record_layouts.specs.declared.patch.PatchItem.{PatchItem}
+use Rattle.record_layouts.specs.declared.places.RecordId.TheVariants as id
+use Rattle.record_layouts.specs.declared.patch.AnyRec.TheVariants as any
+use Rattle.record_layouts.specs.Calls.{tty_piece}
+use Rattle.record_layouts.specs.Held.{Records, with_items}
+use Rattle.record_layouts.specs.Pages.{pages_of}
+use Rattle.record_layouts.specs.Spelling.{IsStatus}
+use Rattle.record_layouts.specs.Head.{FitsHead}
+use Rattle.record_layouts.specs.Decode.{next_by}
+use Rattle.record_layouts.specs.Sound.{IsIn, AreNumbered, AreSound}
+use Rattle.process_table.specs.Choosing.{next_signal}
+use Rattle.process_table.specs.Patches.{ended_exit, ended_items, ended_process, handler_of, head_item, in_handler, interrupted, process_item, saved_items, saved_process, signal_items, signalled_process, without_signal}
+use Rattle.process_table.proofs.EndedSound.{ended_sound, where_held}
+use Rattle.process_table.proofs.Endings.{ended_are}
+use Rattle.process_table.proofs.Kept.{AllWere, calls_stay, kin_itself, mapped_stay}
+use Rattle.process_table.proofs.Running.{signal_range}
+use Rattle.process_table.proofs.Saving.{saved_sound}
+use Rattle.process_table.proofs.Signalling.{signal_sound}
+use Rattle.syscalls.specs.Done.{KeepsSound}
+use Rattle.syscalls.specs.Planned.{Planned, PlanOnce, answered_process, argument_of, caller_with, is_written, items_of, named, planned_answer, planned_call, planned_further, planned_number, planned_piece, planned_tty, planned_write, planned_write_on, staying_process, stopped_answer, written_process, yielded_process}
+use Rattle.syscalls.proofs.Naming.{InWrite, in_write}
+use Rattle.syscalls.proofs.KeptSound.{call_keeps}
+use Rattle.syscalls.proofs.Exported.{further_keeps, writes_on}
+use Rattle.kernel_traps.specs.Plants.{AreInWrites}
+use Rattle.kernel_traps.specs.Carrying.{AreOfProcesses, is_of_process, items_in}
+use Rattle.kernel_traps.specs.Ending.{EndsTrap}
+use Rattle.kernel_traps.specs.Traps.{served_items}
+
+-- where a process becomes another that is in no other call than a write, all are so still
+writes_then : (r : Records) (slot : ℕ) (after : ProcRec) (new : Records) → AreInWrites r → (after.state ≡ 2 → after.call ≡ 2)
+    → new.procs ≡ updated r.procs slot (Some after) → AreInWrites new
+writes_then r slot after new writes own set = record {
+  each = λ place process is in_call.
+      elim (where_held r.procs slot place after process (ap (λ (f : ℕ → Option ProcRec). f place) (sym set) ∙ is.there)) [
+        | inl here ↦ rw here.1 (own (rw here.1 at in_call))
+        | inr before ↦ writes.each place process (record { within = is.within; there = before.1; live = is.live }) in_call
+      ];
+}
+
+-- the records of the head and of a process, or those of one that ends
+pub record AreItems (r : Records) (trap : ℕ) (items : List PatchItem) : Type 0 where
+  pub of_processes : AreOfProcesses items
+  pub in_writes : AreInWrites (with_items r items)
+  pub head : HeadRec
+  pub is_head : (with_items r items).head ≡ Some head
+  pub served : head.served ≡ trap
+
+-- so many records of the head and of processes
+no_more : AreOfProcesses []
+no_more = All-nil (λ (item : PatchItem). is_of_process item.rec ≡ true)
+
+one_more : (item : PatchItem) (items : List PatchItem) → is_of_process item.rec ≡ true → AreOfProcesses items → AreOfProcesses (item ∷ items)
+one_more item items is rest = All-cons (λ (item : PatchItem). is_of_process item.rec ≡ true) item items is rest
+
+three_of : (one two three : PatchItem) → is_of_process one.rec ≡ true → is_of_process two.rec ≡ true → is_of_process three.rec ≡ true → AreOfProcesses (one ∷ two ∷ three ∷ [])
+three_of one two three is is_too is_last = one_more one (two ∷ three ∷ []) is (one_more two (three ∷ []) is_too (one_more three [] is_last no_more))
+
+two_items : (r : Records) (head : HeadRec) (slot trap pid : ℕ) (after : ProcRec) → AreInWrites r → (after.state ≡ 2 → after.call ≡ 2)
+    → AreItems r trap (head_item head trap pid ∷ process_item slot after ∷ [])
+two_items r head slot trap pid after writes own = record {
+  of_processes = one_more (head_item head trap pid) (process_item slot after ∷ []) refl (one_more (process_item slot after) [] refl no_more);
+  in_writes = writes_then r slot after (with_items r (head_item head trap pid ∷ process_item slot after ∷ [])) writes own refl;
+  head = record head { served = trap; last = pid };
+  is_head = refl;
+  served = refl;
+}
+
+abbrev exit_item : (pid status : ℕ) → PatchItem
+exit_item pid status = record { id = id.Exit pid; rec = any.Exit (ended_exit status) }
+
+abbrev signals_item : (slot : ℕ) → SigRec → PatchItem
+signals_item slot signals = record { id = id.Sig slot; rec = any.Sig signals }
+
+ended_are_items : (r : Records) (head : HeadRec) (slot : ℕ) (process : ProcRec) (status trap : ℕ) → AreInWrites r → AreItems r trap (ended_items head slot process status trap)
+unfolding ended_items
+ended_are_items r head slot process status trap writes = record {
+  of_processes = three_of (head_item head trap process.pid) (process_item slot (ended_process process status)) (exit_item process.pid status) refl refl refl;
+  in_writes = writes_then r slot (ended_process process status) (with_items r (ended_items head slot process status trap)) writes (λ s. absurd (omega (arith, s))) refl;
+  head = record head { served = trap; last = process.pid };
+  is_head = refl;
+  served = refl;
+}
+
+ends_with : (r : Records) (trap : ℕ) (plan : Planned) → AreItems r trap (items_in plan) → KeepsSound r plan → EndsTrap r trap plan
+ends_with r trap plan items keeps = record {
+  of_processes = items.of_processes;
+  keeps_sound = keeps;
+  in_writes = items.in_writes;
+  head = items.head;
+  is_head = items.is_head;
+  served = items.served;
+}
+
+-- a bank is saved, a process ends
+pub saved_ends : (r : Records) (head : HeadRec) (slot : ℕ) (process : ProcRec) (bank : Bank) (trap : ℕ) → AreSound r → AreInWrites r → r.head ≡ Some head → IsIn r slot process
+    → process.state ≡ 1 → EndsTrap r trap (PlanOnce (saved_items head slot process bank trap))
+unfolding saved_items
+saved_ends r head slot process bank trap sound writes is_head is out =
+    ends_with r trap (PlanOnce (saved_items head slot process bank trap))
+    (two_items r head slot trap process.pid (saved_process process bank) writes (λ s. absurd (omega (arith, s, out))))
+    (saved_sound r head slot process bank trap sound is_head is out)
+
+pub ended_ends : (r : Records) (head : HeadRec) (slot : ℕ) (process : ProcRec) (status trap : ℕ) → AreSound r → AreInWrites r → r.head ≡ Some head → IsIn r slot process
+    → IsStatus status → EndsTrap r trap (PlanOnce (ended_items head slot process status trap))
+ended_ends r head slot process status trap sound writes is_head is word =
+    ends_with r trap (PlanOnce (ended_items head slot process status trap)) (ended_are_items r head slot process status trap writes)
+    (subst AreSound (sym (ended_are r head slot process status trap)) (ended_sound r head slot process status trap sound is_head is word))
+
+-- a signal goes to a process: it is in no call that it was not in before
+in_handler_out : (process : ProcRec) (signal handler : ℕ) → (in_handler (interrupted process) signal handler).state ≡ 2 → (in_handler (interrupted process) signal handler).call ≡ 2
+in_handler_out process signal handler in_call = elim (cases_Bool (process.state == 2)) [
+  | inl calls ↦ absurd (omega (arith, rw calls at in_call))
+  | inr other ↦ absurd (let state : process.state ≡ 2 = rw other at in_call in grind (arith, nat_tests, other, state))
+]
+
+signalled_in : (process : ProcRec) (signal handler : ℕ) → (process.state ≡ 2 → process.call ≡ 2)
+    → (signalled_process process signal handler).state ≡ 2 → (signalled_process process signal handler).call ≡ 2
+signalled_in process signal handler own = elim (cases_Bool (handler == 1)) [
+  | inl dropped ↦ rw dropped own
+  | inr runs ↦ rw runs (in_handler_out process signal handler)
+]
+
+signal_are_items : (r : Records) (head : HeadRec) (slot : ℕ) (process : ProcRec) (signals : SigRec) (signal trap : ℕ) → AreInWrites r → IsIn r slot process
+    → AreItems r trap (signal_items head slot process signals signal trap)
+unfolding signal_items
+signal_are_items r head slot process signals signal trap writes is = elim (cases_Bool (handler_of signals signal == 0)) [
+  | inl ends ↦ rw ends (ended_are_items r head slot process (0x100 + signal) trap writes)
+  | inr goes_on ↦ rw goes_on (record {
+    of_processes = three_of (head_item head trap process.pid) (process_item slot (signalled_process process signal (handler_of signals signal))) (signals_item slot (without_signal signals signal)) refl refl refl;
+    in_writes = writes_then r slot (signalled_process process signal (handler_of signals signal))
+        (with_items r (head_item head trap process.pid ∷ process_item slot (signalled_process process signal (handler_of signals signal)) ∷ signals_item slot (without_signal signals signal) ∷ [])) writes (signalled_in process signal (handler_of signals signal) (writes.each slot process is)) refl;
+    head = record head { served = trap; last = process.pid };
+    is_head = refl;
+    served = refl;
+  })
+]
+
+pub signal_ends_trap : (r : Records) (head : HeadRec) (slot : ℕ) (process : ProcRec) (signals : SigRec) (signal trap : ℕ) → AreSound r → AreInWrites r → r.head ≡ Some head
+    → IsIn r slot process → r.sigs slot ≡ Some signals → next_signal process signals ≡ Some signal → EndsTrap r trap (PlanOnce (signal_items head slot process signals signal trap))
+signal_ends_trap r head slot process signals signal trap sound writes is_head is there next =
+    let range = signal_range process signals signal next in
+    ends_with r trap (PlanOnce (signal_items head slot process signals signal trap)) (signal_are_items r head slot process signals signal trap writes is)
+    (signal_sound r head slot process signals signal trap sound is_head is there range.0 range.1)
+
+-- the head alone says that a trap is served
+abbrev pub served_records : Records → HeadRec → (trap : ℕ) → Records
+served_records r head trap = record r { head = Some (record head { served = trap }) }
+
+served_were : (r : Records) (head : HeadRec) (trap : ℕ) → AllWere r (Some (record head { served = trap })) r.procs r.sigs r.exits
+served_were r head trap = record {
+  was = λ slot process is. record { old = process; is = record { within = is.within; there = is.there; live = is.live }; kin = kin_itself process is.live };
+}
+
+served_sound : (r : Records) (head : HeadRec) (trap : ℕ) → AreSound r → r.head ≡ Some head → AreSound (served_records r head trap)
+served_sound r head trap sound is_head =
+    let next : next_by r.head ≡ head.next = ap next_by is_head in
+    let fits : FitsHead head = subst (λ (held : Option HeadRec). IfSome held FitsHead) is_head sound.values.head in
+    let held : AreNumbered r = sound.numbered in
+    let were = served_were r head trap in
+    record {
+      complete = record {
+        head = refl;
+        procs = sound.complete.procs;
+        sigs = sound.complete.sigs;
+        descs = sound.complete.descs;
+        files = sound.complete.files;
+        caches = sound.complete.caches;
+        terms = sound.complete.terms;
+        rows = sound.complete.rows;
+        exits = sound.complete.exits;
+      };
+      values = record {
+        head = record { layout = fits.layout; next_from = fits.next_from; next_to = fits.next_to; hand = fits.hand };
+        procs = sound.values.procs;
+        sigs = sound.values.sigs;
+        descs = sound.values.descs;
+        files = sound.values.files;
+        caches = sound.values.caches;
+        terms = sound.values.terms;
+        rows = sound.values.rows;
+        exits = sound.values.exits;
+      };
+      numbered = record {
+        used = λ pid from to. held.used pid from to ∙ ap (λ (n : ℕ). nat_lt pid n) next;
+        one_slot = held.one_slot;
+        exit = λ slot process is. held.exit slot process (record { within = is.within; there = is.there; live = is.live });
+        process = λ pid slot exit.
+            let found = held.process pid slot exit in
+            (found.0, record { within = found.1.within; there = found.1.there; live = found.1.live }, found.2);
+        signals = λ slot process is. held.signals slot process (record { within = is.within; there = is.there; live = is.live });
+        ended = held.ended;
+        one_ended = held.one_ended;
+        parents = λ slot process there. subst (λ (n : ℕ). process.parent < n) next (held.parents slot process there);
+      };
+      in_calls = calls_stay r (Some (record head { served = trap })) r.procs r.sigs r.exits were sound.in_calls;
+      mapped = mapped_stay r (Some (record head { served = trap })) r.procs r.sigs r.exits were sound.mapped;
+    }
+
+pub served_ends : (r : Records) (head : HeadRec) (trap : ℕ) → AreSound r → AreInWrites r → r.head ≡ Some head → EndsTrap r trap (PlanOnce (served_items head trap))
+served_ends r head trap sound writes is_head = record {
+  of_processes = one_more (head_item head trap head.last) [] refl no_more;
+  keeps_sound = served_sound r head trap sound is_head;
+  in_writes = record { each = λ slot process is. writes.each slot process (record { within = is.within; there = is.there; live = is.live }) };
+  head = record head { served = trap };
+  is_head = refl;
+  served = refl;
+}
+
+-- what a call or a further piece of one asks for, case by case
+module _ (r : Records) (head : HeadRec) (slot trap : ℕ) (caller : ProcRec) (pages : Pages) (writes : AreInWrites r) where
+  answered_items : (answer : ℕ) → AreItems r trap (items_in (planned_answer (caller_with slot trap head caller) answer))
+  answered_items answer = two_items r head slot trap caller.pid (answered_process caller answer) writes (λ s. absurd (omega (arith, s)))
+
+  yielded_items : AreItems r trap (items_of (caller_with slot trap head caller) (yielded_process caller))
+  yielded_items = two_items r head slot trap caller.pid (yielded_process caller) writes (λ s. absurd (omega (arith, s)))
+
+  written_items : (count done : ℕ) → AreItems r trap (items_of (caller_with slot trap head caller) (written_process caller count done))
+  written_items count done = elim (cases_Bool (done == count)) [
+    | inl last ↦ rw last (answered_items count)
+    | inr more ↦ rw more (two_items r head slot trap caller.pid (staying_process caller done) writes (λ s. refl))
+  ]
+
+  tty_items : (tty done : ℕ) → AreItems r trap (items_in (planned_tty pages (caller_with slot trap head caller) tty done))
+  unfolding planned_tty
+  tty_items tty done =
+      let count = argument_of caller 2 in
+      let piece = tty_piece count done in
+      elim (cases_Bool (is_readable pages (argument_of caller 1 + done) piece)) [
+        | inl all ↦ rw all (written_items count (done + piece))
+        | inr some ↦ rw some (answered_items (stopped_answer done 14))
+      ]
+
+  write_items : (held : Option DescRec) → AreItems r trap (items_in (planned_write_on pages (caller_with slot trap head caller) held))
+  unfolding planned_write_on
+  write_items None = answered_items (minus 9)
+  write_items (Some d) = elim (cases_Bool (is_written d)) [
+    | inr reads ↦ rw reads (answered_items (minus 9))
+    | inl writes ↦ elim (cases_Bool (nat_lt 0x7fffffff (argument_of caller 2))) [
+      | inl many ↦ rw (writes, many) (answered_items (minus 22))
+      | inr few ↦ elim (cases_Bool (argument_of caller 2 == 0)) [
+        | inl none ↦ rw (writes, few, none) (answered_items 0)
+        | inr some ↦ rw (writes, few, some) (tty_items d.index 0)
+      ]
+    ]
+  ]
+
+  number_items : (number : ℕ) → AreItems r trap (items_in (planned_number r pages (caller_with slot trap head caller) number))
+  unfolding planned_number planned_write
+  number_items number = elim (cases_Bool (number == 1)) [
+    | inl exits ↦ rw exits (ended_are_items r head slot caller (argument_of caller 0 % 256) trap writes)
+    | inr no_exit ↦ elim (cases_Bool (number == 2)) [
+      | inl writes ↦ rw (no_exit, writes) (write_items (named r caller.descs (argument_of caller 0)))
+      | inr no_write ↦ elim (cases_Bool (number == 7)) [
+        | inl asks ↦ rw (no_exit, no_write, asks) (answered_items caller.pid)
+        | inr no_pid ↦ elim (cases_Bool (number == 18)) [
+          | inl yields ↦ rw (no_exit, no_write, no_pid, yields) yielded_items
+          | inr none ↦ rw (no_exit, no_write, no_pid, none) (answered_items (minus 38))
+        ]
+      ]
+    ]
+  ]
+
+  further_items : (held : Option DescRec) (d : DescRec) → held ≡ Some d → AreItems r trap (items_in (planned_further pages (caller_with slot trap head caller) held))
+  further_items (Some other) d is = tty_items other.index caller.done
+  further_items None d is = cc
+
+pub call_ends : (r : Records) (words : WordMap) (slot trap : ℕ) (head : HeadRec) (process : ProcRec) (bank : Bank) → AreSound r → AreInWrites r → r.head ≡ Some head → IsIn r slot process
+    → length process.descs ≡ 8 → EndsTrap r trap (planned_call r words slot trap head process bank)
+unfolding planned_call
+call_ends r words slot trap head process bank sound writes is_head is eight =
+    ends_with r trap (planned_number r (pages_of r words slot process) (caller_with slot trap head (saved_process process bank)) (register bank.regs 17))
+    (number_items r head slot trap (saved_process process bank) (pages_of r words slot process) writes (register bank.regs 17))
+    (call_keeps r words slot trap head process bank sound is_head is eight)
+
+pub piece_ends : (r : Records) (words : WordMap) (slot trap : ℕ) (head : HeadRec) (process : ProcRec) → AreSound r → AreInWrites r → r.head ≡ Some head → IsIn r slot process
+    → process.state ≡ 2 → process.call ≡ 2 → EndsTrap r trap (planned_piece r words slot trap head process)
+unfolding planned_piece
+piece_ends r words slot trap head process sound writes is_head is state call =
+    let inside : InWrite r process = in_write r slot process sound.values is.there (writes_on r slot process sound is state call) in
+    ends_with r trap (planned_further (pages_of r words slot process) (caller_with slot trap head process) (named r process.descs (argument_of process 0)))
+    (further_items r head slot trap process (pages_of r words slot process) writes (named r process.descs (argument_of process 0)) inside.description inside.is_named)
+    (further_keeps r words slot trap head process sound is_head is state call)

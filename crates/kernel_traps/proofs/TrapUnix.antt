@@ -1,0 +1,199 @@
+-- What a plant stands for once the plan of a trap is carried out and the trap has ended.
+use Rattle.std.proofs.Common.{◌≡◌, ◌∙◌, ◌==◌, ◌+◌, ◌-◌, ◌^◌, ◌<◌, ℕ, zero, suc, false, List, length, Option, Some, None, IfSome, refl, sym, ap, arith}
+use Rattle.std.proofs.lemmas.Bool.{cases_Bool}
+use Rattle.std.proofs.Common.{inl, inr}
+use Rattle.ow_base.specs.Pages.{Pages, bytes_at}
+use Rattle.phys_memory.specs.Memory.{words_of}
+use Rattle.record_layouts.specs.declared.memory_map.MemoryMap.{MemoryMap}
+use Rattle.record_layouts.specs.declared.proc.ProcRec.{ProcRec}
+use Rattle.record_layouts.specs.declared.term.TermRec.{TermRec}
+use Rattle.record_layouts.specs.declared.patch.PatchItem.{PatchItem}
+use Rattle.record_layouts.specs.Held.{Held, Records, beside, with_items}
+use Rattle.record_layouts.specs.Decode.{InKernel, unix_of}
+use Rattle.record_layouts.specs.Unix.{Unix}
+use Rattle.syscalls.specs.declared.service.Service.{Service}
+use Rattle.syscalls.specs.declared.service.Service.TheVariants as service
+use Rattle.syscalls.specs.Done.{IsDone}
+use Rattle.syscalls.specs.Planned.{Planned, PlanOnce, PlanWrite, pages_in}
+use Rattle.syscalls.specs.Serving.{IsDoable, plan_of}
+use Rattle.ow_plant.specs.State.{PlantState, left_trap, tty_of}
+use Rattle.intent_store.specs.Live.{held_of, map_of, records_held, rest_of}
+use Rattle.kernel_traps.specs.Plants.{IsInTrap, IsOfDevice, IsSound, context_of, tapes_of, unix_at}
+use Rattle.kernel_traps.specs.Putting.{with_puts}
+use Rattle.kernel_traps.specs.Carrying.{IsCarriedOut, bytes_of}
+use Rattle.kernel_traps.specs.Ending.{IsEnded}
+use Rattle.kernel_traps.specs.Turning.{IsSameMachine}
+use Rattle.kernel_traps.specs.Traps.{IsTrapMade}
+use Rattle.kernel_traps.proofs.Stays.{map_held, room_held, unix_same}
+use Rattle.kernel_traps.proofs.Done.{done as write_done}
+use Rattle.kernel_traps.proofs.Entering.{begun, begins}
+
+-- what stays of a plant while a plan is carried out
+pub record IsCarrier (old new : PlantState) : Type 0 where
+  pub contents : beside (records_held new).map.area_base (words_of new.memory) ≡ beside (records_held old).map.area_base (words_of old.memory)
+  pub shape : new.shape ≡ old.shape
+  pub live : new.live ≡ old.live
+  pub points : new.points ≡ old.points
+  pub history : new.history ≡ old.history
+  pub in_user : new.in_user ≡ old.in_user
+  pub steps : new.steps ≡ old.steps
+  pub traps : new.traps ≡ old.traps
+
+by_rest : (old new : PlantState) → beside (records_held new).map.area_base (words_of new.memory) ≡ beside (records_held old).map.area_base (words_of old.memory)
+    → rest_of new ≡ rest_of old → IsCarrier old new
+by_rest old new contents rest = record {
+  contents = contents;
+  shape = ap (λ (s : PlantState). s.shape) rest;
+  live = ap (λ (s : PlantState). s.live) rest;
+  points = ap (λ (s : PlantState). s.points) rest;
+  history = ap (λ (s : PlantState). s.history) rest;
+  in_user = ap (λ (s : PlantState). s.in_user) rest;
+  steps = ap (λ (s : PlantState). s.steps) rest;
+  traps = ap (λ (s : PlantState). s.traps) rest;
+}
+
+-- bytes that are put change nothing else
+by_puts : (old new : PlantState) (tty : ℕ) (bytes : List ℕ) → beside (records_held new).map.area_base (words_of new.memory) ≡ beside (records_held old).map.area_base (words_of old.memory)
+    → rest_of new ≡ with_puts (rest_of old) tty bytes → IsCarrier old new
+by_puts old new tty bytes contents rest = elim (cases_Bool (tty == 0)) [
+  | inl first ↦
+      let is = rw first at rest in
+      record {
+        contents = contents;
+        shape = ap (λ (s : PlantState). s.shape) is;
+        live = ap (λ (s : PlantState). s.live) is;
+        points = ap (λ (s : PlantState). s.points) is;
+        history = ap (λ (s : PlantState). s.history) is;
+        in_user = ap (λ (s : PlantState). s.in_user) is;
+        steps = ap (λ (s : PlantState). s.steps) is;
+        traps = ap (λ (s : PlantState). s.traps) is;
+      }
+  | inr second ↦
+      let is = rw second at rest in
+      record {
+        contents = contents;
+        shape = ap (λ (s : PlantState). s.shape) is;
+        live = ap (λ (s : PlantState). s.live) is;
+        points = ap (λ (s : PlantState). s.points) is;
+        history = ap (λ (s : PlantState). s.history) is;
+        in_user = ap (λ (s : PlantState). s.in_user) is;
+        steps = ap (λ (s : PlantState). s.steps) is;
+        traps = ap (λ (s : PlantState). s.traps) is;
+      }
+]
+
+pub carrier : (old new : PlantState) (slot : ℕ) (plan : Planned) → IsCarriedOut old slot plan (held_of new) → IsCarrier old new
+carrier old new slot (PlanOnce items) is =
+    by_rest old new (ap (λ (h : Held PlantState). h.contents) is) (ap (λ (h : Held PlantState). h.rest) is)
+carrier old new slot (PlanWrite tty from len items) (put, is, last) =
+    by_puts old new tty (bytes_of old slot from len)
+    (ap (λ (h : Held PlantState). h.contents) last ∙ ap (λ (h : Held PlantState). h.contents) is.rest)
+    (ap (λ (h : Held PlantState). h.rest) last ∙ ap (λ (h : Held PlantState). h.rest) is.rest)
+
+-- the state that the plant stands for, by the words before
+map_still : (old new : PlantState) → IsCarrier old new → (records_held new).map ≡ (records_held old).map
+map_still old new is = map_held new ∙ (let same : map_of new ≡ map_of old = rw (is.shape, is.live) refl in same) ∙ sym (map_held old)
+
+words_still : (old new : PlantState) → IsCarrier old new
+    → beside (records_held new).map.area_base (words_of new.memory) ≡ beside (records_held new).map.area_base (words_of old.memory)
+words_still old new is = is.contents ∙ ap (λ (m : MemoryMap). beside m.area_base (words_of old.memory)) (sym (map_still old new is))
+
+unix_left : (old new : PlantState) → IsCarrier old new → old.in_user ≡ false
+    → unix_at (left_trap new) ≡ unix_of (records_held new) (words_of old.memory) (tapes_of new) InKernel old.steps old.traps
+unfolding unix_at
+unix_left old new is kernel =
+    unix_same (records_held new) (words_of new.memory) (words_of old.memory) (room_held new) (words_still old new is) (tapes_of new) (context_of new) new.steps new.traps
+    ∙ (let out : context_of new ≡ InKernel = rw (is.in_user ∙ kernel) refl in rw (out, is.steps, is.traps) refl)
+
+-- what is done of the records of a service
+length-bytes : (pages : Pages) (a n : ℕ) → length (bytes_at pages a n) ≡ n
+unfolding bytes_at
+length-bytes pages a zero = refl
+length-bytes pages a (suc n) = ap suc (length-bytes pages (a + 1) n)
+
+same_device : (s : PlantState) (tty : ℕ) → tty < 2 → tapes_of s tty ≡ (tty_of s tty).tape
+same_device s zero low = refl
+same_device s (suc zero) low = refl
+same_device s (suc (suc n)) low = absurd (omega (arith, low))
+
+told_by_device : (s : PlantState) (tty : ℕ) (held : Option TermRec) → tty < 2 → IfSome held (IsOfDevice (records_held s) tty (tty_of s tty))
+    → IfSome held (λ terminal. terminal.written ≡ length (tapes_of s tty))
+told_by_device s tty (Some terminal) low is = is.counted ∙ sym (ap (λ (t : List ℕ). length t) (same_device s tty low))
+told_by_device s tty None low is = tt
+
+pub service_done : (b new : PlantState) (slot steps : ℕ) (process : ProcRec) (s : Service) → IsInTrap b steps → (records_held b).procs slot ≡ Some process
+    → IsDoable (records_held b) (words_of b.memory) slot s → IsCarriedOut b slot (plan_of s) (held_of new)
+    → IsDone (records_held b) (words_of b.memory) (tapes_of b) slot process (plan_of s) (records_held new) (tapes_of new)
+service_done b new slot steps process (service.Once patch) trap there doable is =
+    (ap (λ (h : Held PlantState). h.records) is, ap (λ (h : Held PlantState). tapes_of h.rest) is)
+service_done b new slot steps process (service.TtyWrite tty from len patch) trap there doable is =
+    let low : tty < 2 = doable.1.terminal in
+    let device = trap.terminals.bytes tty low in
+    let tape : length (tapes_of b tty) ≡ length (tty_of b tty).tape = ap (λ (t : List ℕ). length t) (same_device b tty low) in
+    let bytes : length (bytes_of b slot from len) ≡ len = length-bytes (pages_in (records_held b) (words_of b.memory) slot) from len in
+    let room : length (tapes_of b tty) + length (bytes_of b slot from len) < 2 ^ 32 =
+    omega (arith, tape, bytes, doable.1.most, device.few, trap.counted, trap.budget, trap.most) in
+    write_done b new slot tty from len patch.items.items process there low
+    (told_by_device b tty ((records_held b).terms tty) low (trap.terminals.records tty low)) room is
+
+-- a trap that has ended
+same_machine : (s b new : PlantState) → IsSameMachine s b → IsCarrier b new → IsSameMachine s (left_trap new)
+same_machine s b new same is = record {
+  shape = is.shape ∙ same.shape;
+  points = is.points ∙ same.points;
+  live = is.live ∙ same.live;
+  history = is.history ∙ same.history;
+}
+
+made_by : (s b new : PlantState) (slot made : ℕ) (plan : Planned) (after : Unix) → b.in_user ≡ false → b.steps ≡ s.steps + made → b.traps ≡ s.traps + 1 → IsSameMachine s b
+    → ((done : PlantState) → IsCarriedOut b slot plan (held_of done)
+    → unix_of (records_held done) (words_of b.memory) (tapes_of done) InKernel (s.steps + made) (s.traps + 1) ≡ after)
+    → IsEnded b slot plan new → IsSound new → IsTrapMade s new after made
+made_by s b new slot made plan after kernel steps traps same law (done, out, left) sound =
+    let is : IsCarrier b done = carrier b done slot plan out in
+    let machine : IsSameMachine s (left_trap done) = same_machine s b done same is in
+    let unix : unix_at (left_trap done) ≡ after =
+    unix_left b done is kernel
+    ∙ (ap (λ (n : ℕ). unix_of (records_held done) (words_of b.memory) (tapes_of done) InKernel n b.traps) steps
+    ∙ (ap (λ (n : ℕ). unix_of (records_held done) (words_of b.memory) (tapes_of done) InKernel (s.steps + made) n) traps ∙ law done out)) in
+    record {
+      sound = sound;
+      unix = ap (λ (p : PlantState). unix_at p) left ∙ unix;
+      steps = ap (λ (p : PlantState). p.steps) left ∙ (is.steps ∙ steps);
+      traps = ap (λ (p : PlantState). p.traps) left ∙ (is.traps ∙ traps);
+      same = record {
+        shape = ap (λ (p : PlantState). p.shape) left ∙ machine.shape;
+        points = ap (λ (p : PlantState). p.points) left ∙ machine.points;
+        live = ap (λ (p : PlantState). p.live) left ∙ machine.live;
+        history = ap (λ (p : PlantState). p.history) left ∙ machine.history;
+      };
+    }
+
+pub one_step : (s : PlantState) → IsSound s → s.steps < s.shape.budget → (begun s).steps ≡ s.steps + 1
+one_step s sound left = omega (arith, sound.most, left)
+
+pub one_trap : (s : PlantState) → s.traps < 2 ^ 32 - 2 → (begun s).traps ≡ s.traps + 1
+one_trap s few = omega (arith, few)
+
+pub begun_same : (s : PlantState) → IsSameMachine s (begun s)
+begun_same s = record { shape = refl; points = refl; live = refl; history = refl }
+
+-- a trap of a process, which is a step
+pub trap_made : (s new : PlantState) (slot : ℕ) (process : ProcRec) (x : Service) (after : Unix) → IsSound s → s.steps < s.shape.budget → s.traps < 2 ^ 32 - 2
+    → (records_held s).procs slot ≡ Some process → IsDoable (records_held s) (words_of s.memory) slot x
+    → ((done : Records) (tapes : ℕ → List ℕ) → IsDone (records_held s) (words_of s.memory) (tapes_of s) slot process (plan_of x) done tapes
+    → unix_of done (words_of s.memory) tapes InKernel (s.steps + 1) (s.traps + 1) ≡ after)
+    → IsEnded (begun s) slot (plan_of x) new → IsSound new → IsTrapMade s new after 1
+trap_made s new slot process x after sound left few there doable law ended settled =
+    made_by s (begun s) new slot 1 (plan_of x) after refl (one_step s sound left) (one_trap s few) (begun_same s)
+    (λ done out. law (records_held done) (tapes_of done) (service_done (begun s) done slot s.steps process x (begins s sound left few) there doable out))
+    ended settled
+
+-- a trap whose records are set at once
+pub once_made : (s b new : PlantState) (slot made : ℕ) (items : List PatchItem) (after : Unix) → b.in_user ≡ false → b.steps ≡ s.steps + made → b.traps ≡ s.traps + 1 → IsSameMachine s b
+    → unix_of (with_items (records_held b) items) (words_of b.memory) (tapes_of b) InKernel (s.steps + made) (s.traps + 1) ≡ after
+    → IsEnded b slot (PlanOnce items) new → IsSound new → IsTrapMade s new after made
+once_made s b new slot made items after kernel steps traps same law ended sound =
+    made_by s b new slot made (PlanOnce items) after kernel steps traps same
+    (λ done out. ap (λ (h : Held PlantState). unix_of h.records (words_of b.memory) (tapes_of h.rest) InKernel (s.steps + made) (s.traps + 1)) out ∙ law)
+    ended sound
