@@ -20,7 +20,6 @@ IsSomeLive s = is_any_live (unix_at s).processes 1 ((unix_at s).next_pid - 1) �
 
 -- a turn is made: the plant is sound again and stands for the state after the turn
 pub record IsTurned (old new : PlantState) : Type 0 where
-  pub live : IsSomeLive old
   pub sound : IsSound new
   pub turn : unix_at new ≡ turn old.shape (unix_at old)
   pub steps : new.steps ≡ old.steps + 1
