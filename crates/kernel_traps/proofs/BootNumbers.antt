@@ -136,11 +136,16 @@ module _ (r : Records) (load : Load) (is : IsBootable load) (booted : IsBooted r
 
   started_there : (slot : ℕ) → slot < length load.starts → (process : ProcRec) × (IsIn r slot process) × (process.pid ≡ slot + 1)
   started_there slot low =
-      let there = start_there load slot is low in
-      (started_record slot there.0,
-      record { within = omega (arith, is.most_starts); there = booted.procs slot (omega (arith, is.most_starts))
-          ∙ ap Some (process_there load slot there.0 there.1); live = refl },
-      refl)
+      let there = start_there load slot is low in (
+        started_record slot there.0,
+        record {
+          within = omega (arith, is.most_starts);
+          there = booted.procs slot (omega (arith, is.most_starts))
+              ∙ ap Some (process_there load slot there.0 there.1);
+          live = refl;
+        },
+        refl,
+      )
 
   used : (pid : ℕ) → 1 ≤ pid → pid ≤ 256 → is_used (r.exits pid) ≡ nat_lt pid (next_by r.head)
   used pid low high =

@@ -127,11 +127,12 @@ start_there load slot is low =
     let none : Started = record { program = 0; tty = 0 } in
     let no_program : Program = record { name = []; code = []; values = [] } in
     let start = get_or load.starts slot none in
-    let found = All-get_or (IsStartable load.programs) load.starts slot none low is.starts in
-    (get_or load.programs start.program no_program,
-    program_found load.programs load.starts slot start (slice_get-get_or load.starts slot none low)
-    ∙ slice_get-get_or load.programs start.program no_program found.program,
-    All-get_or IsLoadable load.programs start.program no_program found.program is.programs)
+    let found = All-get_or (IsStartable load.programs) load.starts slot none low is.starts in (
+      get_or load.programs start.program no_program,
+      program_found load.programs load.starts slot start (slice_get-get_or load.starts slot none low)
+          ∙ slice_get-get_or load.programs start.program no_program found.program,
+      All-get_or IsLoadable load.programs start.program no_program found.program is.programs,
+    )
 
 pub start_loadable : (load : Load) (slot : ℕ) (program : Program) → IsBootable load → slot < length load.starts → program_in load slot ≡ Some program
     → IsLoadable program

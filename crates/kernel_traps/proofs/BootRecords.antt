@@ -128,4 +128,3 @@ module _ {Rest : Type 0} (h : Held Rest) where
   row_more place rec is =
       rw is (ap (λ (f : ℕ → Option RowRec). record h { records = record h.records { rows = f } })
       (set_more 0 place place blank_row_record h.records.rows (omega arith)))
-

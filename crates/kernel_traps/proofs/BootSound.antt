@@ -144,7 +144,7 @@ module _ (load : Load) (old new : PlantState) (is : IsBootable load) (ready : Is
     records = λ tty low.
         rw (is_booted.terms tty low)
         (silent_sound (records_held new) tty (16 * new.shape.budget) (tty_of new tty) (device tty) (blank_shows (is_blank
-            (records_held new) load is is_booted tty low)));
+        (records_held new) load is is_booted tty low)));
     bytes = λ tty low. silent_bytes (tty_of new tty) new.steps new.shape.budget (device tty);
   }
 

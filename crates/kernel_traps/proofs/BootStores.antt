@@ -99,7 +99,7 @@ pub boots_on : (old new : PlantState) (number value : ℕ) → IsBooting old →
 boots_on old new number value is stored other =
     let gate : area_at (words_of new.memory) 1 16 ≡ area_at (words_of old.memory) 1 16 =
     ap (λ (a : Area). a 16) stored.area ∙ (let e : updated (area_at (words_of old.memory) 1) number value 16 ≡ area_at
-        (words_of old.memory) 1 16 = rw other refl in e) in
+    (words_of old.memory) 1 16 = rw other refl in e) in
     booting_on old new is stored.same_rest stored.able gate
 
 -- the records of a plant that boots are read from the words of its area
@@ -118,7 +118,7 @@ words_laid area range = refl
 module _ (old new : PlantState) (range : WordRange) (item : PatchItem) (is : IsBooting old) (still : IsBooting new) (fits : IsPatch (item ∷ []))
     (spelled : AreSpelled (range ∷ []) (item ∷ []))
     (words : area_at (words_of new.memory) 1 ≡ with_first_words (area_at (words_of old.memory) 1) (1024 * range.frame + range.first)
-        (length range.words) range.words)
+    (length range.words) range.words)
     (same_beside : beside 1 (words_of new.memory) ≡ beside 1 (words_of old.memory)) (rest : rest_of new ≡ rest_of old) where
   records_set : records_held new ≡ with_items (records_held old) (item ∷ [])
   records_set =

@@ -83,7 +83,7 @@ starts_as load slot program found =
     let some : (slot + 1 == 0) ≡ false = grind (arith, nat_tests) in
     let less : slot + 1 - 1 ≡ slot = omega arith in
     rw (some, less) (by_program load.programs slot (slice_get load.starts slot)
-        ∙ ap (λ o. option_and_then (λ (p : Program). Some (started_process slot p)) o) found)
+    ∙ ap (λ o. option_and_then (λ (p : Program). Some (started_process slot p)) o) found)
 
 starts_none : (load : Load) (pid : ℕ) → lies_between 1 (length load.starts) pid ≡ false → started_as load pid ≡ None
 unfolding started_as
@@ -95,7 +95,7 @@ starts_none load (suc n) out =
 
 module _ (r : Records) (words : WordMap) (load : Load) (is : IsBootable load) (booted : IsBooted r load)
     (has : (slot : ℕ) (program : Program) → slot < length load.starts → program_in load slot ≡ Some program
-        → HasWords words (pages_before load slot) program) where
+    → HasWords words (pages_before load slot) program) where
   -- the pid in a slot
   pid_there : (slot : ℕ) → slot < length load.starts → pid_in r slot ≡ Some (slot + 1)
   unfolding pid_in
@@ -129,7 +129,7 @@ module _ (r : Records) (words : WordMap) (load : Load) (is : IsBootable load) (b
         let loadable = start_loadable load slot program is low found in
         let pages : pages_of r words slot (started_record slot program) ≡ started_pages program =
         pages_there slot program loadable r (pages_before load slot) booted.base booted.pool (booted.tables slot program low found) words
-            (has slot program low found) in
+        (has slot program low found) in
         let signals = signals_none slot within in
         rw (pages, descriptors_of slot, signals.0, signals.1) refl
 

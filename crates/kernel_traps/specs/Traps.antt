@@ -1,4 +1,6 @@
 -- What the kinds of trap make of a plant, and what a refusal may leave of each.
+use Rattle.ow_plant.specs.Points.{is_in}
+use Rattle.std.specs.List.{list_any}
 use Rattle.std.specs.Prelude.{◌≡◌, ℕ, ◌+◌, ◌≤◌, ◌⊎◌, true, false, nat_lt, List, [], ◌∷◌, Some, IfSome, Result, Ok}
 use Rattle.ow_base.specs.UserStep.{Call, Faulted}
 use Rattle.ow_base.specs.declared.machine.Came.{Came}
@@ -40,6 +42,10 @@ pub record IsTrapMade (old new : PlantState) (after : Unix) (made : ℕ) : Type 
   pub steps : new.steps ≡ old.steps + made
   pub traps : new.traps ≡ old.traps + 1
   pub same : IsSameMachine old new
+
+-- a panic is to come in the next trap: only then a store of it, or its end, is refused
+abbrev pub IsPanicNext : PlantState → Type 0
+IsPanicNext s = list_any (is_in (risen s.traps)) s.points ≡ true
 
 -- the process with a pid is live, and this one
 abbrev pub IsLiveAs : PlantState → (pid : ℕ) → Process → Type 0

@@ -16,7 +16,6 @@ mod records;
 mod stores;
 
 pub use laws::worlds_can_boot;
-
 use ow_base::Load;
 use ow_plant::Plant;
 use pages::start_programs;

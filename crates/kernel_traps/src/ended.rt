@@ -15,8 +15,5 @@ pub fn all_have_ended(plant: &Plant) -> bool
     if plant.in_user() {
         return false;
     }
-    matches!(
-        choose(&live_records(plant), &plant.now()),
-        Choice::AllEnded
-    )
+    matches!(choose(&live_records(plant), &plant.now()), Choice::AllEnded)
 }

@@ -5,7 +5,7 @@ ghost use Rattle.process_table.specs.Choosing.{IsChoice};
 ghost use Rattle.ow_plant.specs.State.{now_of};
 ghost use Rattle.intent_store.specs.Live.{records_held};
 ghost use Rattle.kernel_traps.specs.Plants.{IsSound, unix_at};
-ghost use Rattle.kernel_traps.specs.Traps.{IsAllEnded, IsTrapMade, IsTurnInUser, MayBeLeftOfClosing, MayBeLeftOfKernelTurn, MayBeLeftOfTurn, MayBeLeftOfUserTurn};
+ghost use Rattle.kernel_traps.specs.Traps.{IsAllEnded, IsPanicNext, IsTrapMade, IsTurnInUser, MayBeLeftOfClosing, MayBeLeftOfKernelTurn, MayBeLeftOfTurn, MayBeLeftOfUserTurn};
 ghost use Rattle.kernel_traps.specs.Turning.{AllHaveEnded, IsTurn};
 
 use crate::traps::{
@@ -27,6 +27,7 @@ fn user_turn(plant: &mut Plant) -> Result<Turn, Panicked>
     requires traps { plant.old.traps < 2 ^ 32 - 2 }
     ensures ok { IfOk result (IsTurnInUser plant.old plant.new) }
     ensures err { OnErr result (MayBeLeftOfUserTurn plant.old plant.new) }
+    ensures allowed { OnErr result (IsPanicNext plant.old) }
 {
     match user_step(plant) {
         UserEnd::Next => return Ok(Turn::Step),
@@ -56,6 +57,7 @@ fn kernel_turn(plant: &mut Plant) -> Result<Turn, Panicked>
     ensures ok { IfOk result (IsTurn plant.old plant.new) }
     ensures ended { AllHaveEnded plant.old → IsAllEnded result }
     ensures err { OnErr result (MayBeLeftOfKernelTurn plant.old plant.new) }
+    ensures allowed { OnErr result (IsPanicNext plant.old) }
 {
     let mut live = Live::new(plant);
     match chosen(&mut live) {
@@ -82,6 +84,7 @@ pub fn serve_trap(plant: &mut Plant) -> Result<Turn, Panicked>
     ensures ok { IfOk result (IsTurn plant.old plant.new) }
     ensures ended { AllHaveEnded plant.old → IsAllEnded result }
     ensures err { OnErr result (MayBeLeftOfTurn plant.old plant.new) }
+    ensures allowed { OnErr result (IsPanicNext plant.old) }
 {
     if plant.in_user() {
         user_turn(plant)
@@ -97,6 +100,7 @@ pub fn shutdown(plant: &mut Plant) -> Result<(), Panicked>
     requires traps { plant.old.traps < 2 ^ 32 - 2 }
     ensures ok { OnOk result (IsTrapMade plant.old plant.new (closed (unix_at plant.old)) 0) }
     ensures err { OnErr result (MayBeLeftOfClosing plant.old plant.new) }
+    ensures allowed { OnErr result (IsPanicNext plant.old) }
 {
     if plant.in_user() {
         closing_user_trap(plant)

@@ -15,7 +15,7 @@ ghost use Rattle.syscalls.specs.Planned.{PlanOnce, planned_call, planned_piece};
 ghost use Rattle.ow_plant.specs.State.{now_of, risen};
 ghost use Rattle.intent_store.specs.Live.{records_held};
 ghost use Rattle.kernel_traps.specs.Plants.{IsHeldSound, IsSound, unix_at};
-ghost use Rattle.kernel_traps.specs.Traps.{HasSignalIn, IsCallerOf, IsCaughtIn, IsInCallIn, IsPieceTrap, IsPlanOf, IsSignalTrap, IsTrapMade, IsTrapOf, MayBeLeftOfCall, MayBeLeftOfFault, MayBeLeftOfIdle, MayBeLeftOfPiece, MayBeLeftOfSignal, MayBeLeftOfSlice, MayBeLeftOfUser, served_items};
+ghost use Rattle.kernel_traps.specs.Traps.{HasSignalIn, IsCallerOf, IsCaughtIn, IsInCallIn, IsPanicNext, IsPieceTrap, IsPlanOf, IsSignalTrap, IsTrapMade, IsTrapOf, MayBeLeftOfCall, MayBeLeftOfFault, MayBeLeftOfIdle, MayBeLeftOfPiece, MayBeLeftOfSignal, MayBeLeftOfSlice, MayBeLeftOfUser, served_items};
 
 use crate::ending::end_trap;
 use intent_store::Live;
@@ -156,6 +156,7 @@ pub(crate) fn slice_trap(plant: &mut Plant) -> Result<(), Panicked>
     requires traps { plant.old.traps < 2 ^ 32 - 2 }
     ensures ok { OnOk result (IsTrapMade plant.old plant.new (trapped (unix_at plant.old) plant.old.user_pid) 1) }
     ensures err { OnErr result (MayBeLeftOfSlice plant.old plant.new) }
+    ensures allowed { OnErr result (IsPanicNext plant.old) }
 {
     let pid = plant.user_pid();
     let bank = *plant.bank();
@@ -175,6 +176,7 @@ pub(crate) fn fault_trap(plant: &mut Plant, cause: u32) -> Result<(), Panicked>
     ensures ok { OnOk result (IsTrapOf plant.old plant.new plant.old.user_pid
         (λ p. ended_as (trapped (unix_at plant.old) plant.old.user_pid) plant.old.user_pid p (0x200 + cause))) }
     ensures err { OnErr result (MayBeLeftOfFault plant.old cause plant.new) }
+    ensures allowed { OnErr result (IsPanicNext plant.old) }
 {
     let pid = plant.user_pid();
     plant.enter(Came::User, pid);
@@ -191,6 +193,7 @@ pub(crate) fn call_trap(plant: &mut Plant) -> Result<(), Panicked>
     requires traps { plant.old.traps < 2 ^ 32 - 2 }
     ensures ok { OnOk result (IsTrapOf plant.old plant.new plant.old.user_pid (entered (unix_at plant.old) plant.old.user_pid)) }
     ensures err { OnErr result (MayBeLeftOfCall plant.old plant.new) }
+    ensures allowed { OnErr result (IsPanicNext plant.old) }
 {
     let pid = plant.user_pid();
     let bank = *plant.bank();
@@ -209,6 +212,7 @@ pub(crate) fn piece_trap(plant: &mut Plant, slot: u32) -> Result<(), Panicked>
     requires inside { IsInCallIn (records_held plant.old) slot }
     ensures ok { OnOk result (IsPieceTrap plant.old plant.new slot) }
     ensures err { OnErr result (MayBeLeftOfPiece plant.old slot plant.new) }
+    ensures allowed { OnErr result (IsPanicNext plant.old) }
 {
     let mut before = Live::new(plant);
     let pid = pid_in(&mut before, slot);
@@ -227,6 +231,7 @@ pub(crate) fn signal_trap(plant: &mut Plant, slot: u32) -> Result<(), Panicked>
     requires signal { HasSignalIn (records_held plant.old) slot }
     ensures ok { OnOk result (IsSignalTrap plant.old plant.new slot) }
     ensures err { OnErr result (MayBeLeftOfSignal plant.old slot plant.new) }
+    ensures allowed { OnErr result (IsPanicNext plant.old) }
 {
     let mut before = Live::new(plant);
     let pid = pid_in(&mut before, slot);
@@ -244,6 +249,7 @@ pub(crate) fn idle_trap(plant: &mut Plant) -> Result<(), Panicked>
     requires traps { plant.old.traps < 2 ^ 32 - 2 }
     ensures ok { OnOk result (IsTrapMade plant.old plant.new (idled (unix_at plant.old)) 1) }
     ensures err { OnErr result (MayBeLeftOfIdle plant.old came.Kernel plant.new) }
+    ensures allowed { OnErr result (IsPanicNext plant.old) }
 {
     plant.enter(Came::Kernel, NONE);
     let mut live = Live::new(plant);
@@ -259,6 +265,7 @@ pub(crate) fn closing_user_trap(plant: &mut Plant) -> Result<(), Panicked>
     ensures ok { OnOk result (IsTrapMade plant.old plant.new (closed (unix_at plant.old)) 0) }
     ensures err { OnErr result (MayBeLeftOfUser plant.old came.Closing
         (λ head slot process. PlanOnce (saved_items head slot process plant.old.bank (risen plant.old.traps))) plant.new) }
+    ensures allowed { OnErr result (IsPanicNext plant.old) }
 {
     let pid = plant.user_pid();
     let bank = *plant.bank();
@@ -275,6 +282,7 @@ pub(crate) fn closing_trap(plant: &mut Plant) -> Result<(), Panicked>
     requires traps { plant.old.traps < 2 ^ 32 - 2 }
     ensures ok { OnOk result (IsTrapMade plant.old plant.new (closed (unix_at plant.old)) 0) }
     ensures err { OnErr result (MayBeLeftOfIdle plant.old came.Closing plant.new) }
+    ensures allowed { OnErr result (IsPanicNext plant.old) }
 {
     plant.enter(Came::Closing, NONE);
     let mut live = Live::new(plant);

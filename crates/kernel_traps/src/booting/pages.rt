@@ -63,7 +63,15 @@ fn set_owner(plant: &mut Plant, frame: u32, value: u32)
 }
 
 // Gives pages of a slot, so many from one on, user frames that lie one behind the other.
-fn map_pages(plant: &mut Plant, slot: u32, table: u32, page: u32, count: u32, frame: u32, rights: Rights)
+fn map_pages(
+    plant: &mut Plant,
+    slot: u32,
+    table: u32,
+    page: u32,
+    count: u32,
+    frame: u32,
+    rights: Rights,
+)
     requires booting { IsBooting plant.old }
     requires slot { slot < 16 }
     requires table { table < 3 }

@@ -292,7 +292,11 @@ fn set_processes(plant: &mut Plant, load: &Load)
     ensures booting { IsBooting plant.new }
 {
     for slot in 0..SLOTS {
-        set_record(plant, RecordId::Proc(slot), &AnyRec::Proc(process_record(load, slot)));
+        set_record(
+            plant,
+            RecordId::Proc(slot),
+            &AnyRec::Proc(process_record(load, slot)),
+        );
     }
 }
 
@@ -304,7 +308,11 @@ fn set_signals(plant: &mut Plant, load: &Load)
     ensures booting { IsBooting plant.new }
 {
     for slot in 0..SLOTS {
-        set_record(plant, RecordId::Sig(slot), &AnyRec::Sig(signal_record(load, slot)));
+        set_record(
+            plant,
+            RecordId::Sig(slot),
+            &AnyRec::Sig(signal_record(load, slot)),
+        );
     }
 }
 
@@ -316,7 +324,11 @@ fn set_descriptions(plant: &mut Plant, load: &Load)
     ensures booting { IsBooting plant.new }
 {
     for index in 0..DESCRIPTIONS {
-        set_record(plant, RecordId::Desc(index), &AnyRec::Desc(description_record(load, index)));
+        set_record(
+            plant,
+            RecordId::Desc(index),
+            &AnyRec::Desc(description_record(load, index)),
+        );
     }
 }
 
@@ -328,7 +340,11 @@ fn set_exits(plant: &mut Plant, load: &Load)
     ensures booting { IsBooting plant.new }
 {
     for before in 0..PIDS {
-        set_record(plant, RecordId::Exit(before + 1), &AnyRec::Exit(exit_record(load, before + 1)));
+        set_record(
+            plant,
+            RecordId::Exit(before + 1),
+            &AnyRec::Exit(exit_record(load, before + 1)),
+        );
     }
 }
 
@@ -361,7 +377,11 @@ fn set_terminals(plant: &mut Plant)
     ensures booting { IsBooting plant.new }
 {
     for tty in 0..TERMINALS {
-        set_record(plant, RecordId::Term(tty), &AnyRec::Term(silent_terminal(tty)));
+        set_record(
+            plant,
+            RecordId::Term(tty),
+            &AnyRec::Term(silent_terminal(tty)),
+        );
     }
 }
 

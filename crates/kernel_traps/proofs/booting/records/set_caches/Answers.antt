@@ -22,7 +22,7 @@ loop-entry-preserved c = record {
   held =
       c.set_record.ensures.held
       ∙ ap (λ (h : Held PlantState). patched (record { id = id.Cache c.loop-entry.entry; rec = any.Cache c.empty_cache.result } ∷ []) h)
-        c.loop-entry.invariant.held
+      c.loop-entry.invariant.held
       ∙ cache_more (held_of c.args.plant.now) c.loop-entry.entry c.empty_cache.result c.empty_cache.ensures.is;
   booting = c.set_record.ensures.booting;
 }

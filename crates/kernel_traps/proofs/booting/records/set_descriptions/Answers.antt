@@ -23,7 +23,7 @@ loop-index-preserved c = record {
   held =
       c.set_record.ensures.held
       ∙ ap (λ (h : Held PlantState). patched (record { id = id.Desc c.loop-index.index; rec = any.Desc c.description_record.result } ∷ []) h)
-        c.loop-index.invariant.held
+      c.loop-index.invariant.held
       ∙ description_more (held_of c.args.plant.now) c.args.load.now c.loop-index.index c.description_record.result c.description_record.ensures.is;
   booting = c.set_record.ensures.booting;
 }

@@ -23,7 +23,7 @@ loop-before-preserved c = record {
   held =
       c.set_record.ensures.held
       ∙ ap (λ (h : Held PlantState). patched (record { id = id.Exit (c.loop-before.before + 1); rec = any.Exit c.exit_record.result } ∷ []) h)
-        c.loop-before.invariant.held
+      c.loop-before.invariant.held
       ∙ exit_more (held_of c.args.plant.now) c.args.load.now c.loop-before.before c.exit_record.result c.exit_record.ensures.is;
   booting = c.set_record.ensures.booting;
 }
