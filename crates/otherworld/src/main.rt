@@ -2,8 +2,6 @@
 //! go out.
 #![tactic(auto)]
 
-mod boot;
-mod kernel_traps;
 mod laws;
 mod ow_report;
 mod rows;
