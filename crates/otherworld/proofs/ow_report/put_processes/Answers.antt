@@ -1,4 +1,4 @@
-use Rattle.std.proofs.Common.{◌≡◌, ℕ, ◌-◌, ap, subst, sym, ◌∙◌, arith}
+use Rattle.std.proofs.Common.{◌-◌, arith}
 use Rattle.record_layouts.specs.Report.{process_lines}
 use Rattle.kernel_traps.specs.Plants.{unix_at}
 use Rattle.otherworld.proofs.Reports.{processes_further, processes_broken, processes_complete}

@@ -1,4 +1,4 @@
-use Rattle.std.proofs.Common.{◌≡◌, ◌-◌, ◌≤◌}
+use Rattle.std.proofs.Common.{◌-◌, ◌≤◌}
 use Rattle.record_layouts.specs.Report.{process_lines}
 use Rattle.kernel_traps.specs.Plants.{unix_at}
 use Rattle.otherworld.proofs.Reports.{PartWay}
