@@ -1,6 +1,6 @@
 -- How the parts of the report follow each other, and the texts of its lines.
-use Rattle.std.proofs.Common.{◌≡◌, ℕ, suc, ◌+◌, ◌-◌, ◌<◌, ◌≤◌, min, nat_eq, true, false, List, [], ◌∷◌, ◌++◌, length, take, drop, get_or, length-drop, drop-cons, add-one, Option, Some, Result, inl, inr, refl, sym, ap, ◌∙◌, arith, append_assoc, append-nil}
-use Rattle.std.specs.Prelude.{decimal, codes}
+use Rattle.std.proofs.Common.{◌≡◌, ℕ, suc, ◌+◌, ◌-◌, ◌<◌, ◌≤◌, min, nat_eq, true, false, List, [], ◌∷◌, ◌++◌, length, take, drop, get_or, length-drop, drop-cons, add-one, Option, Some, None, Result, inl, inr, refl, sym, ap, ◌∙◌, arith, append_assoc, append-nil}
+use Rattle.std.specs.Prelude.{decimal, codes, is_some, IfSome}
 use lib.Pointwise.{pointwise}
 use Rattle.std.proofs.lemmas.List.{take_all}
 use Rattle.std.proofs.Math.ListN.{drop_of_length-le}
@@ -8,14 +8,17 @@ use Rattle.std.proofs.Math.Seq.{drop-length}
 use Rattle.std.proofs.lemmas.Bool.{cases_lt, and_parts, and_cases, eqb-true}
 use Rattle.std.proofs.lemmas.Bool.Decides.{nat_tests}
 use Rattle.ow_base.specs.Lines.{line, spaced, escaped}
-use Rattle.record_layouts.specs.Report.{status_words, process_line, out_lines, trimmed, kept_before, row_lines, row_line_of, process_lines, head_text, terminal_text, report_of}
+use Rattle.record_layouts.specs.Report.{status_words, process_line, out_lines, trimmed, kept_before, row_lines, row_line_of, process_lines, head_text, terminal_text, shown_on, report_of}
+use Rattle.record_layouts.specs.Held.{Records}
+use Rattle.record_layouts.specs.Decode.{terminal_by, unix_of}
+use Rattle.record_layouts.specs.declared.term.TermRec.{TermRec}
 use Rattle.ow_base.specs.declared.worlds.Ending.{Ending}
-use Rattle.ow_plant.specs.State.{PlantState}
-use Rattle.otherworld.specs.declared.kernel_traps.Kernel.{Kernel}
+use Rattle.ow_plant.specs.State.{PlantState, Terminal as Device}
+use Rattle.intent_store.specs.Live.{records_held}
+use Rattle.kernel_traps.specs.Plants.{unix_at, IsSound, IsOfDevice}
 use Rattle.otherworld.specs.declared.ow_report.Word.{Word}
 use Rattle.otherworld.specs.declared.ow_report.Exit.{Exit}
 use Rattle.otherworld.specs.declared.ow_report.Exit.TheVariants.{Code, Signal, Fault, Lost}
-use Rattle.otherworld.specs.State.{unix_of, exit_of, IsRunOver}
 use Rattle.otherworld.specs.Writing.{word_text, line_text, exit_key, exit_number, status_of, IsExit, tape_line_count}
 use Rattle.ow_base.specs.Outside.{appended, IsFront, Writes}
 use Rattle.ow_base.proofs.Writing.{appended-nil, both, shifted, cut, then_writes}
@@ -185,9 +188,64 @@ rows_broken text rows r row u v w h is p e =
 pub rows_complete : (text : List ℕ) (rows : List (List ℕ)) (r : ℕ) (u v : Option (List ℕ)) → length rows ≡ r → PartWay text (row_lines r (drop r rows)) u v → v ≡ appended u text
 rows_complete text rows r u v h p = complete text u v (rw (rows_none rows r h) at p)
 
--- the report of a run that is over, by its parts
-pub report_parts : (ending : Ending) (s : PlantState) (k : Kernel) → IsRunOver s
-    → report_of ending (unix_of s k) ≡ head_text ending s.steps s.traps ++ (process_line 1 (exit_of k.life)
+-- the lines of the processes from a pid on are its line and those of the others
+pub processes_more : (exits : ℕ → Option ℕ) (pid next : ℕ) → pid < next
+    → process_lines exits pid (next - pid) ≡ process_line pid (exits pid) ++ process_lines exits (pid + 1) (next - (pid + 1))
+unfolding process_lines
+processes_more exits pid next h = let more : next - pid ≡ suc (next - (pid + 1)) = omega arith in rw more refl
+
+-- from the next pid on there is none
+pub processes_none : (exits : ℕ → Option ℕ) (pid next : ℕ) → next ≤ pid → process_lines exits pid (next - pid) ≡ []
+unfolding process_lines
+processes_none exits pid next h = let none : next - pid ≡ 0 = omega arith in rw none refl
+
+-- the record of a terminal tells of the tape of the device, and the device shows the screen
+terminal_shown : (r : Records) (tty : ℕ) (device : Device) (o : Option TermRec) → is_some o ≡ true → IfSome o (IsOfDevice r tty device)
+    → ((terminal_by device.tape o).tape ≡ device.tape) × (shown_on (terminal_by device.tape o) ≡ device.display)
+terminal_shown r tty device None there is = absurd (cc there)
+terminal_shown r tty device (Some terminal) there is =
+    let not_ahead : nat_eq terminal.written (length device.tape + 1) ≡ false = grind (arith, nat_tests, is.counted) in
+    rw not_ahead (refl, sym is.display)
+
+-- one process more
+pub processes_further : (text : List ℕ) (exits : ℕ → Option ℕ) (pid next : ℕ) (ended : Option ℕ) (u v w : Option (List ℕ)) → pid < next → ended ≡ exits pid
+    → PartWay text (process_lines exits pid (next - pid)) u v → w ≡ appended v (process_line pid ended) → PartWay text (process_lines exits (pid + 1) (next - (pid + 1))) u w
+processes_further text exits pid next ended u v w h is p e =
+    further text (process_line pid (exits pid)) _ u v w (rw (processes_more exits pid next h) at p) (rw is at e)
+
+pub processes_broken : (text : List ℕ) (exits : ℕ → Option ℕ) (pid next : ℕ) (ended : Option ℕ) (u v w : Option (List ℕ)) → pid < next → ended ≡ exits pid
+    → PartWay text (process_lines exits pid (next - pid)) u v → IsFront (process_line pid ended) v w → IsFront text u w
+processes_broken text exits pid next ended u v w h is p e =
+    broken text (process_line pid (exits pid)) _ u v w (rw (processes_more exits pid next h) at p) (rw is at e)
+
+pub processes_complete : (text : List ℕ) (exits : ℕ → Option ℕ) (pid next : ℕ) (u v : Option (List ℕ)) → next ≤ pid
+    → PartWay text (process_lines exits pid (next - pid)) u v → v ≡ appended u text
+processes_complete text exits pid next u v h p = complete text u v (rw (processes_none exits pid next h) at p)
+
+-- the terminals of the Unix are the devices
+pub terminal0 : (s : PlantState) → IsSound s → (((unix_at s).terminals 0).tape ≡ s.tty0.tape) × (shown_on ((unix_at s).terminals 0) ≡ s.tty0.display)
+unfolding unix_at unix_of
+terminal0 s sound =
+    terminal_shown (records_held s) 0 s.tty0 ((records_held s).terms 0) (sound.held.records.complete.terms 0 (omega arith)) (sound.terminals.records 0 (omega arith))
+
+pub terminal1 : (s : PlantState) → IsSound s → (((unix_at s).terminals 1).tape ≡ s.tty1.tape) × (shown_on ((unix_at s).terminals 1) ≡ s.tty1.display)
+unfolding unix_at unix_of
+terminal1 s sound =
+    terminal_shown (records_held s) 1 s.tty1 ((records_held s).terms 1) (sound.held.records.complete.terms 1 (omega arith)) (sound.terminals.records 1 (omega arith))
+
+-- the Unix counts as the plant does
+pub unix_steps : (s : PlantState) → (unix_at s).steps ≡ s.steps
+unfolding unix_at unix_of
+unix_steps s = refl
+
+pub unix_traps : (s : PlantState) → (unix_at s).traps ≡ s.traps
+unfolding unix_at unix_of
+unix_traps s = refl
+
+-- the report of a run that left this plant, by its parts
+pub report_parts : (ending : Ending) (s : PlantState) → IsSound s
+    → report_of ending (unix_at s) ≡ head_text ending s.steps s.traps ++ (process_lines (unix_at s).exits 1 ((unix_at s).next_pid - 1)
     ++ (terminal_text 0 s.tty0.tape s.tty0.display ++ (terminal_text 1 s.tty1.tape s.tty1.display ++ line (codes "end"))))
-unfolding report_of unix_of process_lines
-report_parts ending s k over = rw (over.shown0, over.shown1, append-nil) refl
+unfolding report_of
+report_parts ending s sound =
+    rw (unix_steps s, unix_traps s, (terminal0 s sound).1, (terminal1 s sound).1, (terminal0 s sound).0, (terminal1 s sound).0) refl

@@ -1,27 +1,22 @@
 -- How the parts of a call of the program make its answer.
-use Rattle.std.proofs.Common.{◌≡◌, ℕ, zero, suc, ◌+◌, ◌<◌, ◌≤◌, true, List, [], ◌∷◌, length, drop, get_or, slice_get, Option, Some, None, refl, ap, sym, subst, ◌∙◌, arith}
-use Rattle.std.proofs.lemmas.Option.{none-some}
+use Rattle.std.proofs.Common.{◌≡◌, ℕ, zero, suc, ◌+◌, ◌≤◌, true, List, [], ◌∷◌, length, drop, Option, Some, None, refl, ap, sym, subst, ◌∙◌, arith}
 use Rattle.ow_base.specs.Outside.{TakesAll, TakesOver}
-use Rattle.ow_base.specs.World.{IsWorld, IsProgram, AreTexts}
 use Rattle.world_file.specs.declared.why.Why.{Why}
 use Rattle.world_file.specs.declared.why.Why.TheVariants.{TooLarge}
 use Rattle.world_file.specs.declared.reader.WorldFault.{WorldFault}
 use Rattle.world_file.specs.declared.reader.WorldFault.TheVariants.{Bad}
 use Rattle.world_file.specs.declared.reader.WorldFault.TheVariants as fault
 use Rattle.world_file.specs.WorldRefusals.{IsRefused, IsRefusedFault, Long}
-use Rattle.record_layouts.specs.Unix.{Unix, start_of}
+use Rattle.record_layouts.specs.Unix.{start_of}
 use Rattle.record_layouts.specs.Run.{Run, RunsFrom}
 use Rattle.record_layouts.specs.Report.{report_of}
-use Rattle.ow_base.specs.declared.machine.Shape.{Shape}
 use Rattle.ow_base.specs.declared.worlds.World.{World}
-use Rattle.ow_base.specs.declared.worlds.Program.{Program}
-use Rattle.ow_base.specs.declared.worlds.Start.{Start as Started}
 use Rattle.ow_base.specs.declared.worlds.Ending.{Ending}
 use Rattle.ow_base.specs.declared.worlds.PanicRecord.{PanicRecord}
 use Rattle.ow_base.specs.declared.worlds.Ending.TheVariants as ending
 use Rattle.ow_plant.specs.State.{PlantState}
-use Rattle.otherworld.specs.declared.kernel_traps.Kernel.{Kernel}
-use Rattle.otherworld.specs.State.{unix_of, IsLoadOf, IsRunOver}
+use Rattle.kernel_traps.specs.Plants.{unix_at, IsSound}
+use Rattle.otherworld.proofs.Reports.{terminal0, terminal1, unix_steps, unix_traps}
 use Rattle.otherworld.specs.Top.{PlantAgrees, IsRead, IsReported, IsNoWorld, Intends, status_of, unread_status, refusal_text, most_bytes}
 
 -- behind the last byte there is none
@@ -49,63 +44,26 @@ pub unread_intends : (left after : Option (List ℕ)) (bytes : List ℕ) (rose :
 unread_intends left after bytes rose plant (Bad number why) takes small refused = (refl, no_world left after bytes number why takes small refused, refl, refl)
 unread_intends left after bytes rose plant (fault.Memory e) takes small refused = (refl, refl, refl)
 
--- a program of a world has at most so many words
-sized : (programs : List Program) (text : List ℕ) (place : ℕ) (program : Program) → AreTexts IsProgram text programs → slice_get programs place ≡ Some program
-    → (length program.code ≤ 65536) × (length program.values ≤ 65536)
-unfolding AreTexts
-sized [] text place program are found = absurd (none-some program found)
-sized (p ∷ programs) text zero program are found =
-    let same : p ≡ program = cc found in
-    rw (← same) (are.3.code.longest, are.3.values.longest)
-sized (p ∷ programs) text (suc place) program are found = sized programs are.1 place program are.4 found
+-- a sound plant stands as the state that it decodes to
+pub PlantAgrees-sound : (s : PlantState) → IsSound s → PlantAgrees s (unix_at s)
+PlantAgrees-sound s sound = record {
+  armed = sound.held.armed.armed;
+  decodes = refl;
+  steps = sym (unix_steps s);
+  traps = sym (unix_traps s);
+  tape0 = sym (terminal0 s sound).0;
+  tape1 = sym (terminal1 s sound).0;
+  display0 = sym (terminal0 s sound).1;
+  display1 = sym (terminal1 s sound).1;
+}
 
--- a list of one is its first
-one_of : (starts : List Started) (d : Started) → length starts ≡ 1 → starts ≡ get_or starts 0 d ∷ []
-one_of [] d one = absurd (omega (arith, one))
-one_of (s ∷ []) d one = refl
-one_of (s ∷ t ∷ rest) d one = absurd (omega (arith, one))
-
--- what is found at a place lies there
-located : (programs : List Program) (place : ℕ) (program d : Program) → slice_get programs place ≡ Some program → (place < length programs) × (get_or programs place d ≡ program)
-located [] place program d found = absurd (none-some program found)
-located (p ∷ programs) zero program d found = (omega arith, cc found)
-located (p ∷ programs) (suc place) program d found = let there = located programs place program d found in (omega (arith, there.0), there.1)
-
--- a world's load with one start
-of_start : (input : List ℕ) (world : World) (d : Program) (start : Started) → IsWorld input world → world.load.starts ≡ start ∷ []
-    → (start.program < length world.load.programs) × IsLoadOf world.load (get_or world.load.programs start.program d) start
-unfolding AreTexts
-of_start input world d start value one =
-    let is = (rw one at value.starts).3 in
-    let there = located world.load.programs start.program is.program d is.found in
-    let sizes = sized world.load.programs value.programs_text start.program is.program value.programs is.found in
-    let pages = rw (one, is.found) at value.frames in (
-      there.0,
-      rw there.1 (record {
-        starts = one;
-        named = is.found;
-        tty = is.tty;
-        short_code = sizes.0;
-        short_values = sizes.1;
-        frames = omega (arith, pages);
-      }),
-    )
-
-pub one_load : (input : List ℕ) (world : World) (d : Program) (s : Started) → IsWorld input world → length world.load.starts ≡ 1
-    → ((get_or world.load.starts 0 s).program < length world.load.programs) × IsLoadOf world.load (get_or world.load.programs (get_or world.load.starts 0 s).program d) (get_or world.load.starts 0 s)
-one_load input world d s value one = of_start input world d (get_or world.load.starts 0 s) value (one_of world.load.starts s one)
-
--- a run that is over has left the plant as its state says
-pub PlantAgrees-over : (s : PlantState) (k : Kernel) → IsRunOver s → PlantAgrees s (unix_of s k)
-unfolding unix_of
-PlantAgrees-over s k over = record { armed = over.armed; steps = refl; traps = refl; tape0 = refl; tape1 = refl; display0 = over.shown0; display1 = over.shown1 }
-
--- a run from where boot left the machine is one of the world
-pub reports : (world : World) (shape : Shape) (u : Unix) (s : PlantState) (k : Kernel) (e : Ending) → shape ≡ world.load.shape → u ≡ start_of world.load → IsRunOver s → RunsFrom shape u [] e (unix_of s k) → IsReported world s e (report_of e (unix_of s k))
-reports world shape u s k e same begun over run = record {
-  w = unix_of s k;
-  run = subst (λ (h : List PanicRecord). Run world h e (unix_of s k)) (sym over.no_history) (subst (λ (v : Unix). RunsFrom world.load.shape v [] e (unix_of s k)) begun (subst (λ (m : Shape). RunsFrom m u [] e (unix_of s k)) same run));
-  agrees = PlantAgrees-over s k over;
+-- a run from the start of a world's load, on a plant with no panic, is one of the world
+pub reports : (world : World) (s : PlantState) (e : Ending) → s.history ≡ [] → IsSound s → RunsFrom world.load.shape (start_of world.load) [] e (unix_at s)
+    → IsReported world s e (report_of e (unix_at s))
+reports world s e none sound run = record {
+  w = unix_at s;
+  run = subst (λ (h : List PanicRecord). Run world h e (unix_at s)) (sym none) run;
+  agrees = PlantAgrees-sound s sound;
   reported = refl;
 }
 

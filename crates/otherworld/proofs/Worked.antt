@@ -1,5 +1,7 @@
 -- The worked examples, computed.
-use Rattle.std.proofs.Common.{◌≡◌, ℕ, ◌⊎◌, inl, inr, true, refl, ap, subst, ◌∙◌, List, [], Option, Some, None}
+use Rattle.std.proofs.Common.{◌≡◌, ℕ, zero, suc, ◌⊎◌, inl, inr, Bool, true, ◌&&◌, refl, ap, sym, subst, ◌∙◌, List, [], Option, Some, None}
+use Rattle.std.specs.Prelude.{is_none}
+use Rattle.std.proofs.lemmas.Bool.{and_parts}
 use Rattle.std.specs.Fmt.{digits}
 use Rattle.ow_base.specs.Lines.{hex8, escaped_byte}
 use Rattle.ow_base.specs.UserStep.{immediate_act, register_act, branch_act, load_act, store_act, system_act, act_of, gone_to, after_load, after_store, acted, after_fetch, user_step}
@@ -28,11 +30,11 @@ use Rattle.world_file.proofs.WorldUnique.{one_world}
 use Rattle.otherworld.specs.declared.top.Status.{Status}
 use Rattle.otherworld.specs.declared.top.Status.TheVariants as status
 use Rattle.otherworld.specs.Top.{Answers, Intends, IsSaid, IsRun, IsReported, memory_text}
-use Rattle.otherworld.specs.Rows.{worked_world, exit_seven, exit_seven_text, exit_seven_report, hi, hi_text, hi_report, few_frames_text, no_end_text, turned, after}
+use Rattle.otherworld.specs.Rows.{worked_world, exit_seven, exit_seven_text, exit_seven_report, hi_on, hi, hi_text, hi_report, three_hi, three_hi_text, three_hi_report, few_frames_text, no_end_text, turned, after}
 
 -- `unfolding rows` lets `refl` compute the reading of a text, a run and a report
 unfoldable pub rows : Unit {0}
-unfolding digits hex8 escaped_byte immediate_act register_act branch_act load_act store_act system_act act_of gone_to after_load after_store acted after_fetch user_step page_space is_readable bytes_at started_rights started_byte started_pages started_process started_as started_description start_of least_from deliverable call_goes_on chosen is_any_live settled trapped answered stays_in ended_as description_of tty_write write_entry exit_entry called entered continued piece_of step_of stepped user_turn idled turn_at turn ending_of closed blank_screen on_next_line printed drawn screen_of head_text status_words process_lines out_lines trimmed row_lines screen_text terminal_text report_of pieces words key_of number_of word_of is_name words_of first_reason with_line read_lines read_text worked_world exit_seven exit_seven_text exit_seven_report hi hi_text hi_report few_frames_text no_end_text turned after
+unfolding digits hex8 escaped_byte immediate_act register_act branch_act load_act store_act system_act act_of gone_to after_load after_store acted after_fetch user_step page_space is_readable bytes_at started_rights started_byte started_pages started_process started_as started_description start_of least_from deliverable call_goes_on chosen is_any_live settled trapped answered stays_in ended_as description_of tty_write write_entry exit_entry called entered continued piece_of step_of stepped user_turn idled turn_at turn ending_of closed blank_screen on_next_line printed drawn screen_of head_text status_words process_lines out_lines trimmed row_lines screen_text terminal_text report_of pieces words key_of number_of word_of is_name words_of first_reason with_line read_lines read_text worked_world exit_seven exit_seven_text exit_seven_report hi_on hi hi_text hi_report three_hi three_hi_text three_hi_report few_frames_text no_end_text turned after
 rows = tt
 
 -- the texts of the worlds
@@ -43,6 +45,10 @@ exit_seven_world = (reads exit_seven_text exit_seven refl).0
 pub hi_world : IsWorld hi_text hi
 unfolding rows
 hi_world = (reads hi_text hi refl).0
+
+pub three_hi_world : IsWorld three_hi_text three_hi
+unfolding rows
+three_hi_world = (reads three_hi_text three_hi refl).0
 
 hi_built : IsBuilt hi
 unfolding rows
@@ -61,27 +67,49 @@ pub no_end_refused : IsRefused no_end_text 9 End
 unfolding rows
 no_end_refused = refuses no_end_text (record { line = 9; why = End }) refl
 
--- a turn more of a run that ends done
-more : (shape : Shape) (u w : Unix) → ending_of shape u ≡ None → RunsFrom shape (turn shape u) [] Done w → RunsFrom shape u [] Done w
-more shape u w e r = goes_on u [] Done w e r
+-- the run goes on before each of so many turns
+unfoldable goes_through : Shape → Unix → (count : ℕ) → Bool
+goes_through shape u zero = true
+goes_through shape u (suc n) = is_none (ending_of shape u) && goes_through shape (turn shape u) n
+
+-- a turn first and then so many are so many and then a turn
+turned_first : (shape : Shape) (u : Unix) (n : ℕ) → turned shape (turn shape u) n ≡ turned shape u (suc n)
+unfolding turned
+turned_first shape u zero = refl
+turned_first shape u (suc n) = ap (turn shape) (turned_first shape u n)
+
+is_none-None : {A : Type 0} (o : Option A) → is_none o ≡ true → o ≡ None
+is_none-None None h = refl
+is_none-None (Some a) h = absurd (cc h)
+
+-- a run that goes on for so many turns and then ends
+run_through : (shape : Shape) (u : Unix) (n : ℕ) (e : Ending) → goes_through shape u n ≡ true → ending_of shape (turned shape u n) ≡ Some e
+    → RunsFrom shape u [] e (closed (turned shape u n))
+unfolding goes_through turned
+run_through shape u zero e through last = ends u e last
+run_through shape u (suc n) e through last =
+    let parts = and_parts (is_none (ending_of shape u)) (goes_through shape (turn shape u) n) through in
+    let same = turned_first shape u n in
+    goes_on u [] e (closed (turned shape u (suc n))) (is_none-None (ending_of shape u) parts.0)
+    (subst (λ (w : Unix). RunsFrom shape (turn shape u) [] e (closed w)) same
+    (run_through shape (turn shape u) n e parts.1 (subst (λ (w : Unix). ending_of shape w ≡ Some e) (sym same) last)))
 
 -- the runs
 pub exit_seven_run : Run exit_seven [] Done (closed (after exit_seven 3))
-unfolding rows
-exit_seven_run =
-    let shape = exit_seven.load.shape in
-    let w = closed (after exit_seven 3) in
-    more shape (after exit_seven 0) w refl (more shape (after exit_seven 1) w refl (more shape (after exit_seven 2) w refl
-    (ends (after exit_seven 3) Done refl)))
+unfolding rows goes_through
+exit_seven_run = run_through exit_seven.load.shape (start_of exit_seven.load) 3 Done refl refl
 
 pub hi_run : Run hi [] Done (closed (after hi 8))
+unfolding rows goes_through
+hi_run = run_through hi.load.shape (start_of hi.load) 8 Done refl refl
+
+pub three_hi_run : Run three_hi [] Done (closed (after three_hi 24))
+unfolding rows goes_through
+three_hi_run = run_through three_hi.load.shape (start_of three_hi.load) 24 Done refl refl
+
+pub three_hi_reports : report_of Done (closed (after three_hi 24)) ≡ three_hi_report
 unfolding rows
-hi_run =
-    let shape = hi.load.shape in
-    let w = closed (after hi 8) in
-    more shape (after hi 0) w refl (more shape (after hi 1) w refl (more shape (after hi 2) w refl (more shape (after hi 3) w refl
-    (more shape (after hi 4) w refl (more shape (after hi 5) w refl (more shape (after hi 6) w refl (more shape (after hi 7) w refl
-    (ends (after hi 8) Done refl))))))))
+three_hi_reports = refl
 
 -- two runs from one state are one, whatever their histories
 one : (shape : Shape) (u : Unix) (h k : List PanicRecord) (a b : Ending) (v w : Unix) → RunsFrom shape u h a v → RunsFrom shape u k b w → (a ≡ b) × (v ≡ w)

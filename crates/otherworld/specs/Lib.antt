@@ -1,6 +1,4 @@
 -- The definitions that the program's contracts cite beside those of the crates below.
-pub mod State
-pub mod Boot
 pub mod Top
 pub mod Writing
 pub mod Rows

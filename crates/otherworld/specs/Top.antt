@@ -10,6 +10,7 @@ use Rattle.ow_base.specs.declared.worlds.World.{World}
 use Rattle.ow_base.specs.declared.worlds.Ending.{Ending}
 use Rattle.ow_base.specs.declared.worlds.Ending.TheVariants as ending
 use Rattle.ow_plant.specs.State.{PlantState}
+use Rattle.kernel_traps.specs.Plants.{unix_at}
 use Rattle.world_file.specs.declared.why.Why.{Why}
 use Rattle.world_file.specs.declared.reader.WorldFault.{WorldFault}
 use Rattle.world_file.specs.declared.reader.WorldFault.TheVariants.{Bad}
@@ -74,9 +75,11 @@ abbrev pub unread_status : WorldFault → Status
 unread_status (Bad number why) = BadWorld number why
 unread_status (fault.Memory e) = Memory
 
--- PlantAgrees: the plant stands as the state that a run left, by its counts, tapes and displays
+-- PlantAgrees: the plant stands as the state that a run left, by its records and memory, and by its counts, tapes and
+-- displays
 pub record PlantAgrees (plant : PlantState) (w : Unix) : Type 0 where
   pub armed : plant.armed ≡ true
+  pub decodes : unix_at plant ≡ w
   pub steps : plant.steps ≡ w.steps
   pub traps : plant.traps ≡ w.traps
   pub tape0 : plant.tty0.tape ≡ (w.terminals 0).tape

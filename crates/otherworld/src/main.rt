@@ -2,8 +2,6 @@
 //! go out.
 #![tactic(auto)]
 
-mod boot;
-mod kernel_traps;
 mod laws;
 mod ow_report;
 mod rows;
@@ -15,7 +13,7 @@ use ow_base::{StdSink, StdSource};
 use ow_plant::Plant;
 pub use rows::{
     exit_seven_runs, hi_has_one_answer, hi_runs, refusals_are_spelled, rows_are_refused,
-    rows_are_worlds,
+    rows_are_worlds, three_hi_runs,
 };
 use std::env::args;
 use std::io;

@@ -1,14 +1,15 @@
-ghost use Rattle.std.specs.Prelude.{◌≡◌, ℕ, ◌+◌, ◌-◌, ◌^◌, ◌<◌, ◌≤◌, List, [], ◌∷◌, length, codes, decimal, flat_map, OnErr, Some};
+ghost use Rattle.std.specs.Prelude.{◌≡◌, ℕ, ◌+◌, ◌-◌, ◌^◌, ◌<◌, ◌≤◌, List, [], ◌∷◌, length, codes, decimal, flat_map, OnErr, Option, Some};
 ghost use Rattle.ow_base.specs.Lines.{line, spaced, number_line, escaped};
 ghost use Rattle.ow_base.specs.Outside.{Rose, Writes};
-ghost use Rattle.record_layouts.specs.Report.{head_text, ending_word, status_words, process_line, out_lines, tape_text, row_lines, trimmed, row_line_of, screen_text, terminal_text, report_of};
-ghost use Rattle.otherworld.specs.State.{unix_of, exit_of, IsRunOver};
+ghost use Rattle.record_layouts.specs.Report.{head_text, ending_word, status_words, process_line, process_lines, out_lines, tape_text, row_lines, trimmed, row_line_of, screen_text, terminal_text, report_of};
+ghost use Rattle.kernel_traps.specs.Plants.{unix_at, IsSound};
 ghost use Rattle.otherworld.specs.Writing.{word_text, next_word, line_text, exit_key, exit_number, status_of, IsExit, tape_line_count};
 
-use crate::kernel_traps::{FAULT, Kernel, Life, PID};
+use intent_store::live_records;
 use itoa::Buffer;
 use ow_base::{Ending, Failed, Sink, put_all, put_escaped};
 use ow_plant::{Display, Plant};
+use record_layouts::RecordView;
 
 /// How many bytes of a tape one line has.
 const TAPE_LINE: usize = 64;
@@ -19,8 +20,14 @@ const ROWS: u32 = 24;
 /// The first status word of a signal. Those below are exit codes.
 const SIGNAL: u32 = 0x100;
 
+/// The first status word of a fault.
+const FAULT: u32 = 0x200;
+
 /// The first status word of a loss.
 const LOST: u32 = 0x300;
+
+/// The state that the exit record of an ended process has.
+const ENDED: u32 = 2;
 
 /// A word of a line.
 #[derive(Clone, Copy, Debug)]
@@ -207,16 +214,58 @@ fn put_exit<K: Sink>(sink: &mut K, pid: u32, exit: Exit) -> Result<(), Failed>
     put_line(sink, b"exit", &[pid, Word::Key(exit.key()), number])
 }
 
-/// Writes the line of the process: how it ended, or that it is live.
-fn put_process<K: Sink>(sink: &mut K, pid: u32, life: &Life) -> Result<(), Failed>
-    ensures writes { Writes result (process_line pid (exit_of life.now)) (K.written sink.old) (K.written sink.new) }
+/// Writes the line of a process: how it ended, or that it is live.
+fn put_process<K: Sink>(sink: &mut K, pid: u32, ended: Option<u32>) -> Result<(), Failed>
+    ensures writes { Writes result (process_line pid ended) (K.written sink.old) (K.written sink.new) }
     ensures failed { OnErr result (Rose (K.faults sink.old) (K.faults sink.new)) }
     ensures never_falls { K.faults sink.old ≤ K.faults sink.new }
 {
-    match life {
-        Life::Ended(status) => put_exit(sink, pid, Exit::of_status(*status)),
-        Life::Outside(_) | Life::Writing { .. } => put_number_line(sink, b"live", pid),
+    match ended {
+        Some(status) => put_exit(sink, pid, Exit::of_status(status)),
+        None => put_number_line(sink, b"live", pid),
     }
+}
+
+/// The pid that the next process would get. All below it have been given away.
+#[tactic(auto, unfolding(kernel_traps::specs::Plants::unix_at, record_layouts::specs::Decode::unix_of))]
+fn next_pid(plant: &Plant) -> u32
+    ensures pid { result ≡ (unix_at plant.now).next_pid }
+    ensures some { 1 ≤ result }
+    ensures most { result ≤ 257 }
+{
+    match live_records(plant).head() {
+        Some(head) => head.next,
+        None => 1,
+    }
+}
+
+/// The status word of a process that has ended.
+#[tactic(auto, unfolding(kernel_traps::specs::Plants::unix_at, record_layouts::specs::Decode::unix_of))]
+fn exit_status(plant: &Plant, pid: u32) -> Option<u32>
+    requires some { 1 ≤ pid }
+    requires most { pid ≤ 256 }
+    ensures { result ≡ (unix_at plant.now).exits pid }
+{
+    match live_records(plant).exit(pid) {
+        Some(exit) if exit.state == ENDED => Some(exit.value),
+        _ => None,
+    }
+}
+
+/// Writes the lines of all processes that there have been, by their pids.
+fn put_processes<K: Sink>(sink: &mut K, plant: &Plant) -> Result<(), Failed>
+    ensures writes { Writes result (process_lines (unix_at plant.now).exits 1 ((unix_at plant.now).next_pid - 1)) (K.written sink.old) (K.written sink.new) }
+    ensures failed { OnErr result (Rose (K.faults sink.old) (K.faults sink.new)) }
+    ensures never_falls { K.faults sink.old ≤ K.faults sink.new }
+{
+    let next = next_pid(plant);
+    for pid in 1..next {
+        match put_process(sink, pid, exit_status(plant, pid)) {
+            Ok(()) => {}
+            Err(Failed) => return Err(Failed),
+        }
+    }
+    Ok(())
 }
 
 /// Writes the line of a piece of a tape.
@@ -361,17 +410,12 @@ fn put_terminal<K: Sink>(
     }
 }
 
-/// Writes the report of a run that is over.
+/// Writes the report of a run that ended so and left this plant.
 ///
 /// After `Failed`, which comes only where the sink failed, a front of it is written.
-pub fn write_report<K: Sink>(
-    sink: &mut K,
-    plant: &Plant,
-    kernel: &Kernel,
-    ending: Ending,
-) -> Result<(), Failed>
-    requires { IsRunOver plant.now }
-    ensures writes { Writes result (report_of ending (unix_of plant.now kernel.now)) (K.written sink.old) (K.written sink.new) }
+pub fn write_report<K: Sink>(sink: &mut K, plant: &Plant, ending: Ending) -> Result<(), Failed>
+    requires sound { IsSound plant.now }
+    ensures writes { Writes result (report_of ending (unix_at plant.now)) (K.written sink.old) (K.written sink.new) }
     ensures failed { OnErr result (Rose (K.faults sink.old) (K.faults sink.new)) }
     ensures never_falls { K.faults sink.old ≤ K.faults sink.new }
 {
@@ -379,7 +423,7 @@ pub fn write_report<K: Sink>(
         Ok(()) => {}
         Err(Failed) => return Err(Failed),
     }
-    match put_process(sink, PID, &kernel.life) {
+    match put_processes(sink, plant) {
         Ok(()) => {}
         Err(Failed) => return Err(Failed),
     }

@@ -1,4 +1,4 @@
-//! Worked examples. The functions do nothing: their contracts say what the definitions come to at two worlds
+//! Worked examples. The functions do nothing: their contracts say what the definitions come to at three worlds
 //! and at the texts of refusals, and the check computes it.
 
 ghost use Rattle.std.specs.Prelude.{◌≡◌, ℕ, true, List, [], ◌∷◌, codes, Option, Some, None, ◌⊎◌};
@@ -15,12 +15,13 @@ ghost use Rattle.otherworld.specs.declared.top.Status.TheVariants as status;
 ghost use Rattle.world_file.specs.declared.why.Why.TheVariants.{NotBuilt, TooLarge, Number, End};
 ghost use Rattle.world_file.specs.WorldRefusals.{IsRefused};
 ghost use Rattle.otherworld.specs.Top.{Answers, Intends, bad_world_text, read_fault_text, memory_text, usage_text};
-ghost use Rattle.otherworld.specs.Rows.{exit_seven, exit_seven_text, exit_seven_report, hi, hi_text, hi_report, few_frames_text, no_end_text, after};
+ghost use Rattle.otherworld.specs.Rows.{exit_seven, exit_seven_text, exit_seven_report, hi, hi_text, hi_report, three_hi, three_hi_text, three_hi_report, few_frames_text, no_end_text, after};
 
-/// The texts of the two worlds spell them.
+/// The texts of the three worlds spell them.
 pub const fn rows_are_worlds()
     ensures exit_seven { IsWorld exit_seven_text exit_seven }
     ensures hi { IsWorld hi_text hi }
+    ensures three_hi { IsWorld three_hi_text three_hi }
 {}
 
 /// Texts that are refused: none at all, hi with five frames, where 16 are the fewest, and exit_seven without
@@ -51,6 +52,14 @@ pub const fn hi_runs()
     ensures code { (closed (after hi 8)).exits 1 ≡ Some 0 }
     ensures tape { ((closed (after hi 8)).terminals 0).tape ≡ 72 ∷ 105 ∷ 10 ∷ [] }
     ensures report { report_of ending.Done (closed (after hi 8)) ≡ hi_report }
+{}
+
+/// A run of three_hi is three times that of hi, and one closing trap. The three processes end with code 0, and two of
+/// them have written on terminal 0.
+pub const fn three_hi_runs()
+    ensures run { Run three_hi [] ending.Done (closed (after three_hi 24)) }
+    ensures counts { ((closed (after three_hi 24)).steps ≡ 24) × ((closed (after three_hi 24)).traps ≡ 7) }
+    ensures report { report_of ending.Done (closed (after three_hi 24)) ≡ three_hi_report }
 {}
 
 /// What the contract of `otherworld` lets it answer to the words `run` and the text of hi, where no fault of

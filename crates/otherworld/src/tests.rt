@@ -353,7 +353,7 @@ fn refusals_have_their_texts(rt: HostRuntime) -> Result<(), Fail> {
 }
 
 /// A text that is no world, the line and the reason, and what is written.
-const REFUSED: [(&str, u32, Why, &str); 7] = [
+const REFUSED: [(&str, u32, Why, &str); 9] = [
     ("", 1, Why::End, "bad world line 1: end\n"),
     (
         "world 1\nframes 32\nsectors 4\nquantum 100\nbudget 1000\nprogram a\ncode 00700513 00100893 00000073\nstart a 0\n",
@@ -380,10 +380,24 @@ const REFUSED: [(&str, u32, Why, &str); 7] = [
         "bad world line 9: not built\n",
     ),
     (
-        "world 1\nframes 32\nsectors 4\nquantum 100\nbudget 1000\nprogram a\ncode 00000073\nstart a 0\nstart a 1\nend\n",
+        "world 1\nframes 32\nsectors 4\nquantum 100\nbudget 1000\nprogram a\ncode 00000073\nstart a 0\nstart b 1\nend\n",
         9,
-        Why::NotBuilt,
-        "bad world line 9: not built\n",
+        Why::NoSuchProgram,
+        "bad world line 9: no such program\n",
+    ),
+    // a process has five pages at least
+    (
+        "world 1\nframes 16\nsectors 4\nquantum 100\nbudget 1000\nprogram a\ncode 00700513 00100893 00000073\nstart a 0\nstart a 0\nstart a 0\nstart a 0\nend\n",
+        11,
+        Why::Frames,
+        "bad world line 11: frames\n",
+    ),
+    // 17 starts
+    (
+        "world 1\nframes 128\nsectors 4\nquantum 100\nbudget 1000\nprogram a\ncode 00000073\nstart a 0\nstart a 0\nstart a 0\nstart a 0\nstart a 0\nstart a 0\nstart a 0\nstart a 0\nstart a 0\nstart a 0\nstart a 0\nstart a 0\nstart a 0\nstart a 0\nstart a 0\nstart a 0\nstart a 0\nend\n",
+        24,
+        Why::TooMany,
+        "bad world line 24: too many\n",
     ),
     (
         "world 1\nframes 32\nsectors 4\nquantum 100\nbudget 1000\nprogram a\ncode 00000073\nstart a 0\nend\n\n",
@@ -446,6 +460,75 @@ fn the_program_that_is_named_runs(rt: HostRuntime) -> Result<(), Fail> {
         )?;
         assert_eq!(rt; answer, Status::Done, "{lines}");
         assert_eq!(rt; sink.written(), wanted.as_bytes(), "{lines}");
+    }
+    Ok(())
+}
+
+/// The limits of a world, its programs, its starts, the status, and the report behind its first line.
+const SEVERAL: [(&str, &str, &str, Status, &str); 6] = [
+    (
+        "quantum 100\nbudget 1000",
+        "program a\ncode 00100513 000115b7 00300613 00200893 00000073 00000513 00100893 00000073\ndata 000a6948\n",
+        "start a 0\nstart a 1\nstart a 0\n",
+        Status::Done,
+        "ending done\nsteps 24\ntraps 7\nexit 1 code 0\nexit 2 code 0\nexit 3 code 0\ntty 0 6\nout Hi\\nHi\\n\nscreen 0 2 0\nrow 0 Hi\nrow 1 Hi\ntty 1 3\nout Hi\\n\nscreen 1 1 0\nrow 0 Hi\nend\n",
+    ),
+    // each start has its own program: exit(3), and exit(7)
+    (
+        "quantum 100\nbudget 1000",
+        "program a\ncode 00700513 00100893 00000073\nprogram b\ncode 00300513 00100893 00000073\n",
+        "start b 0\nstart a 0\n",
+        Status::Done,
+        "ending done\nsteps 6\ntraps 3\nexit 1 code 3\nexit 2 code 7\ntty 0 0\nscreen 0 0 0\ntty 1 0\nscreen 1 0 0\nend\n",
+    ),
+    // the exit code is the pid
+    (
+        "quantum 100\nbudget 1000",
+        "program a\ncode 00700893 00000073 00100893 00000073\n",
+        "start a 0\nstart a 0\nstart a 1\n",
+        Status::Done,
+        "ending done\nsteps 12\ntraps 7\nexit 1 code 1\nexit 2 code 2\nexit 3 code 3\ntty 0 0\nscreen 0 0 0\ntty 1 0\nscreen 1 0 0\nend\n",
+    ),
+    // the budget comes before any step, once one has ended, and in the slices of two that never end
+    (
+        "quantum 100\nbudget 0",
+        "program a\ncode 00700513 00100893 00000073\n",
+        "start a 0\nstart a 0\n",
+        Status::Budget,
+        "ending budget\nsteps 0\ntraps 1\nlive 1\nlive 2\ntty 0 0\nscreen 0 0 0\ntty 1 0\nscreen 1 0 0\nend\n",
+    ),
+    (
+        "quantum 100\nbudget 3",
+        "program a\ncode 00700513 00100893 00000073\n",
+        "start a 0\nstart a 0\n",
+        Status::Budget,
+        "ending budget\nsteps 3\ntraps 2\nexit 1 code 7\nlive 2\ntty 0 0\nscreen 0 0 0\ntty 1 0\nscreen 1 0 0\nend\n",
+    ),
+    (
+        "quantum 4\nbudget 10",
+        "program a\ncode 0000006f\n",
+        "start a 0\nstart a 1\n",
+        Status::Budget,
+        "ending budget\nsteps 10\ntraps 3\nlive 1\nlive 2\ntty 0 0\nscreen 0 0 0\ntty 1 0\nscreen 1 0 0\nend\n",
+    ),
+];
+
+#[test]
+fn several_processes_run(rt: HostRuntime) -> Result<(), Fail> {
+    let alloc = rt.alloc();
+    for (limits, programs, starts, status, told) in SEVERAL {
+        let text = format!(in alloc;
+            "world 1\nframes 32\nsectors 4\n{limits}\n{programs}{starts}end\n"
+        )?;
+        let wanted = format!(in alloc; "otherworld 1\n{told}")?;
+        let (answer, sink) = answer_to(
+            alloc,
+            "run",
+            &mut MemSource::new(Vec::from_slice(alloc, text.as_bytes())?, Vec::new(alloc)),
+            Vec::new(alloc),
+        )?;
+        assert_eq!(rt; answer, status, "{programs}{starts}");
+        assert_eq!(rt; sink.written(), wanted.as_bytes(), "{programs}{starts}");
     }
     Ok(())
 }

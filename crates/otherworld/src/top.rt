@@ -1,19 +1,13 @@
 ghost use Rattle.std.specs.Prelude.{◌≡◌, ◌≤◌, ◌<◌, ◌+◌, List, ℕ, false, true, [], IfOk, IfErr, OnErr};
 ghost use Rattle.ow_base.specs.Outside.{Rose, Writes};
 ghost use Rattle.ow_base.specs.World.{IsWorld};
-ghost use Rattle.world_file.specs.WorldRefusals.{IsBuilt};
 ghost use Rattle.ow_base.specs.declared.worlds.Ending.{Ending};
 ghost use Rattle.ow_plant.specs.State.{IsReady};
-ghost use Rattle.otherworld.specs.State.{NeverRefuses, IsLoadOf};
 ghost use Rattle.otherworld.specs.Top.{unread_status, is_run as is_run_alone, refusal_text, bad_world_text, status_of as status_at, Intends, IsSaid, IsRead, IsReported, Answers};
 
-use crate::boot::boot;
 use crate::ow_report::write_report;
 use crate::schedule_runner::run;
-use ow_base::{
-    Ending, Failed, Program, ReadAllFault, Sink, Source, Start, World, put_all, put_number,
-    read_all,
-};
+use ow_base::{Ending, Failed, ReadAllFault, Sink, Source, World, put_all, put_number, read_all};
 use ow_plant::Plant;
 use std::alloc::{AllocError, Global};
 use world_file::{Why, WorldFault, read_world};
@@ -139,13 +133,12 @@ fn unread(fault: WorldFault) -> Status
     }
 }
 
-/// Reads a world and arms the plant for it. A refusal leaves the plant as it was.
+/// Reads a world and arms the plant for it, with no panics. A refusal leaves the plant as it was.
 fn load_world<S: Source>(alloc: Global, source: &mut S, plant: &mut Plant) -> Result<World, Status>
     requires { plant.old.armed ≡ false }
     ensures read { IfOk result (IsRead (S.left source.old) (S.left source.new)) }
-    ensures built { IfOk result IsBuilt }
     ensures ready { IfOk result (λ world. IsReady world.load.shape plant.new) }
-    ensures never { IfOk result (λ _. NeverRefuses plant.new) }
+    ensures none { IfOk result (λ _. plant.new.points ≡ []) }
     ensures refused { IfErr result (λ status. Intends true (S.left source.old) (S.left source.new) (Rose (S.faults source.old) (S.faults source.new)) plant.old plant.new status (refusal_text status)) }
     ensures never_falls { S.faults source.old ≤ S.faults source.new }
 {
@@ -170,33 +163,17 @@ fn load_world<S: Source>(alloc: Global, source: &mut S, plant: &mut Plant) -> Re
     }
 }
 
-/// The one start of a world, and the program that it names.
-fn one_start(world: &World) -> (&Program, &Start)
-    requires value { (input : List ℕ) × IsWorld input world.now }
-    requires built { IsBuilt world.now }
-    ensures { IsLoadOf world.now.load result.0.now result.1.now }
-{
-    let [start] = world.load.starts.items() else {
-        unreachable!()
-    };
-    let program = &world.load.programs.items()[start.program as usize];
-    (program, start)
-}
-
 /// Runs a world on the plant that is armed for it, and writes the report.
 fn run_world<K: Sink>(world: &World, plant: &mut Plant, sink: &mut K) -> Status
     requires ready { IsReady world.now.load.shape plant.old }
-    requires never { NeverRefuses plant.old }
+    requires none { plant.old.points ≡ [] }
     requires value { (input : List ℕ) × IsWorld input world.now }
-    requires built { IsBuilt world.now }
     ensures reported { (ending : Ending) × (text : List ℕ) × IsReported world.now plant.new ending text
         × IsSaid text (status_at ending) (Rose (K.faults sink.old) (K.faults sink.new)) (K.written sink.old) (K.written sink.new) result }
     ensures never_falls { K.faults sink.old ≤ K.faults sink.new }
 {
-    let (program, start) = one_start(world);
-    let mut kernel = boot(plant, program, start);
-    let ending = run(plant, &mut kernel, world.load.shape.budget);
-    match write_report(sink, plant, &kernel, ending) {
+    let ending = run(plant, &world.load);
+    match write_report(sink, plant, ending) {
         Ok(()) => status_of(ending),
         Err(Failed) => Status::WriteFault,
     }

@@ -1,17 +1,19 @@
 use Rattle.std.proofs.Common.{refl, ◌∙◌, inl, inr}
 use Rattle.record_layouts.specs.Report.{report_of}
-use Rattle.otherworld.specs.State.{unix_of}
+use Rattle.kernel_traps.specs.Plants.{unix_at}
+use Rattle.otherworld.proofs.Bootable.{bootable}
 use Rattle.otherworld.proofs.Tops.{reports}
 use Rattle.otherworld.proofs.top.run_world.Goals as goal
 
+pub run-ending-requires-clause-load : goal.run-ending-requires-clause-load
+run-ending-requires-clause-load g c = bootable c.requires.value.0 c.args.world.now c.requires.value.1
+
 pub returns-in-Ok-clause-reported : goal.returns-in-Ok-clause-reported
 returns-in-Ok-clause-reported g c =
-    let begun = c.boot-kernel.ensures.started c.args.world.now.load c.one_start.ensures in
-    let reported = reports c.args.world.now c.boot-kernel.new.plant.shape (unix_of c.boot-kernel.new.plant c.boot-kernel.result) c.run-ending.new.plant c.run-ending.new.kernel c.run-ending.result (c.boot-kernel.ensures.same_shape ∙ c.requires.ready.of_shape) begun c.run-ending.ensures.over c.run-ending.ensures.run in
-    (c.run-ending.result, report_of c.run-ending.result (unix_of c.run-ending.new.plant c.run-ending.new.kernel), reported, inl (c.status_of.ensures, c.in-Ok.ensures.writes))
+    let reported = reports c.args.world.now c.run-ending.new.plant c.run-ending.result (c.run-ending.ensures.same.history ∙ c.requires.ready.no_history) c.run-ending.ensures.sound c.run-ending.ensures.run in
+    (c.run-ending.result, report_of c.run-ending.result (unix_at c.run-ending.new.plant), reported, inl (c.status_of.ensures, c.in-Ok.ensures.writes))
 
 pub returns-in-Err-clause-reported : goal.returns-in-Err-clause-reported
 returns-in-Err-clause-reported g c =
-    let begun = c.boot-kernel.ensures.started c.args.world.now.load c.one_start.ensures in
-    let reported = reports c.args.world.now c.boot-kernel.new.plant.shape (unix_of c.boot-kernel.new.plant c.boot-kernel.result) c.run-ending.new.plant c.run-ending.new.kernel c.run-ending.result (c.boot-kernel.ensures.same_shape ∙ c.requires.ready.of_shape) begun c.run-ending.ensures.over c.run-ending.ensures.run in
-    (c.run-ending.result, report_of c.run-ending.result (unix_of c.run-ending.new.plant c.run-ending.new.kernel), reported, inr (refl, c.in-Err.ensures.failed, c.in-Err.ensures.writes))
+    let reported = reports c.args.world.now c.run-ending.new.plant c.run-ending.result (c.run-ending.ensures.same.history ∙ c.requires.ready.no_history) c.run-ending.ensures.sound c.run-ending.ensures.run in
+    (c.run-ending.result, report_of c.run-ending.result (unix_at c.run-ending.new.plant), reported, inr (refl, c.in-Err.ensures.failed, c.in-Err.ensures.writes))
