@@ -5,7 +5,6 @@
 mod laws;
 mod ow_report;
 mod rows;
-mod schedule_runner;
 mod top;
 
 pub use laws::one_run;

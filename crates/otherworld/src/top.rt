@@ -6,7 +6,7 @@ ghost use Rattle.ow_plant.specs.State.{IsReady};
 ghost use Rattle.otherworld.specs.Top.{unread_status, is_run as is_run_alone, refusal_text, bad_world_text, status_of as status_at, Intends, IsSaid, IsRead, IsReported, Answers};
 
 use crate::ow_report::write_report;
-use crate::schedule_runner::run;
+use schedule_runner::run;
 use ow_base::{Ending, Failed, ReadAllFault, Sink, Source, World, put_all, put_number, read_all};
 use ow_plant::Plant;
 use std::alloc::{AllocError, Global};
