@@ -1,13 +1,12 @@
 -- A store or an end is refused only in a trap with a panic to come.
-use Rattle.std.proofs.Common.{◌≡◌, ◌∙◌, ◌==◌, ℕ, Bool, true, false, List, ap, inl, inr, refl, arith}
+use Rattle.std.proofs.Common.{◌≡◌, ◌∙◌, ◌==◌, ℕ, true, false, List, ap, inl, inr, refl, arith}
 use Rattle.std.proofs.lemmas.Bool.{cases_Bool}
 use Rattle.std.proofs.lemmas.Grind.{common_steps}
 use Rattle.record_layouts.specs.Held.{Held}
-use Rattle.ow_plant.specs.State.{PlantState, refuses, refuses_leave}
-use Rattle.intent_store.specs.Live.{is_able, may_refuse, rest_of}
+use Rattle.ow_plant.specs.State.{PlantState, refuses}
+use Rattle.intent_store.specs.Live.{may_refuse, rest_of}
 use Rattle.intent_store.proofs.Plants.{refused_in_trap}
 use Rattle.kernel_traps.specs.Putting.{IsPut, with_puts}
-use Rattle.kernel_traps.specs.Carrying.{IsCarriedOut, bytes_of}
 
 -- it is a matter of the rest
 pub refusals_same : (s t : PlantState) → rest_of t ≡ rest_of s → may_refuse t ≡ may_refuse s

@@ -1,5 +1,5 @@
 -- How a trap ends: what its plan must be, what is so once it is carried out, and what a refusal may leave.
-use Rattle.std.specs.Prelude.{◌≡◌, ℕ, ◌<◌, ◌≤◌, true, List, Option, Some, None}
+use Rattle.std.specs.Prelude.{◌≡◌, ℕ, ◌<◌, true, Some}
 use Rattle.record_layouts.specs.declared.head.HeadRec.{HeadRec}
 use Rattle.record_layouts.specs.Held.{Records, with_items}
 use Rattle.syscalls.specs.Planned.{Planned, PlanOnce, PlanWrite}

@@ -1,5 +1,5 @@
 -- Which state of the Unix a plant stands for, and what holds of it between turns and inside a trap.
-use Rattle.std.specs.Prelude.{◌≡◌, ℕ, ◌+◌, ◌-◌, ◌*◌, ◌^◌, ◌<◌, ◌≤◌, true, false, ◌==◌, if◌then◌else◌, List, [], length, drop, Option, Some, None, IfSome}
+use Rattle.std.specs.Prelude.{◌≡◌, ℕ, ◌+◌, ◌-◌, ◌*◌, ◌^◌, ◌<◌, ◌≤◌, true, false, ◌==◌, if◌then◌else◌, List, [], length, drop, IfSome}
 use Rattle.ow_base.specs.Screen.{screen_of}
 use Rattle.phys_memory.specs.Memory.{words_of}
 use Rattle.sv32_tables.specs.Spaces.{satp_of}

@@ -1,5 +1,5 @@
 -- What a turn makes of a plant.
-use Rattle.std.specs.Prelude.{◌≡◌, ℕ, ◌+◌, ◌-◌, true, false}
+use Rattle.std.specs.Prelude.{◌≡◌, ◌+◌, ◌-◌, true, false}
 use Rattle.record_layouts.specs.Choice.{is_any_live}
 use Rattle.record_layouts.specs.Turn.{turn}
 use Rattle.ow_plant.specs.State.{PlantState}

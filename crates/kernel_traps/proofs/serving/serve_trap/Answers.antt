@@ -1,4 +1,4 @@
-use Rattle.std.proofs.Common.{rules, refl, sym, ◌∙◌}
+use Rattle.std.proofs.Common.{refl, sym, ◌∙◌}
 use Rattle.kernel_traps.proofs.KernelServed.{left_by, turned_in_user, user_not_ended}
 use Rattle.kernel_traps.proofs.serving.serve_trap.Goals as goal
 

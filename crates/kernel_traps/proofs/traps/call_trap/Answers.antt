@@ -1,4 +1,4 @@
-use Rattle.std.proofs.Common.{rules, ◌∙◌, ◌+◌}
+use Rattle.std.proofs.Common.{rules, ◌∙◌}
 use Rattle.syscalls.specs.Serving.{plan_of}
 use Rattle.kernel_traps.proofs.Entering.{begun}
 use Rattle.kernel_traps.proofs.TrapKinds.{call_caught, call_ends_trap, call_made, doable_still, ends_begun, made_ok, trap_begun}

@@ -1,4 +1,4 @@
-use Rattle.std.proofs.Common.{rules, ◌∙◌}
+use Rattle.std.proofs.Common.{rules}
 use Rattle.syscalls.specs.Serving.{plan_of}
 use Rattle.kernel_traps.proofs.Entering.{begun}
 use Rattle.kernel_traps.proofs.TrapKinds.{ends_begun, made_ok, piece_ends_then, piece_made_then, trap_begun}

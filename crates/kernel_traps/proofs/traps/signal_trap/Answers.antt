@@ -1,4 +1,4 @@
-use Rattle.std.proofs.Common.{rules, ◌∙◌}
+use Rattle.std.proofs.Common.{rules}
 use Rattle.syscalls.specs.Planned.{PlanOnce}
 use Rattle.kernel_traps.proofs.Entering.{begun}
 use Rattle.kernel_traps.proofs.TrapKinds.{ends_begun, made_ok, once_begun, signal_ends_then, signal_made_then}

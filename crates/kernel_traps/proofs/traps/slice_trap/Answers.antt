@@ -1,4 +1,4 @@
-use Rattle.std.proofs.Common.{rules, ◌∙◌, ◌+◌}
+use Rattle.std.proofs.Common.{rules, ◌∙◌}
 use Rattle.syscalls.specs.Serving.{plan_of}
 use Rattle.kernel_traps.proofs.Entering.{begun}
 use Rattle.kernel_traps.proofs.TrapKinds.{doable_still, ends_begun, made_ok, slice_caught, slice_ends, slice_made, trap_begun}
