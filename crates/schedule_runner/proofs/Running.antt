@@ -1,10 +1,12 @@
 -- How a run ends, and that it goes on.
-use Rattle.std.proofs.Common.{◌≡◌, ◌≢◌, ℕ, ◌+◌, ◌-◌, ◌<◌, ◌≤◌, ◌⊎◌, inl, inr, cond, false, true, nat_eq, List, [], Option, Some, None, refl, sym, subst, ap, arith, ◌∙◌}
+use Rattle.std.proofs.Common.{◌≡◌, ◌≢◌, ℕ, ◌+◌, ◌-◌, ◌<◌, ◌≤◌, ◌⊎◌, inl, inr, Bool, IsTrue, ◌↔◌, cond, false, true, nat_eq, List, [], Option, Some, None, refl, sym, subst, ap, arith, ◌∙◌}
+use Rattle.std.proofs.lemmas.Bool.{cases_Bool}
 use Rattle.std.proofs.lemmas.Grind.{common_steps}
 use Rattle.ow_base.specs.declared.machine.Shape.{Shape}
 use Rattle.ow_base.specs.declared.worlds.Ending.{Ending}
 use Rattle.ow_base.specs.declared.worlds.Load.{Load}
 use Rattle.ow_base.specs.declared.worlds.Ending.TheVariants.{Done, Budget}
+use Rattle.record_layouts.specs.Choice.{is_any_live}
 use Rattle.record_layouts.specs.Decode.{unix_of}
 use Rattle.record_layouts.specs.Run.{RunsFrom, ends, goes_on}
 use Rattle.record_layouts.specs.Turn.{closed, ending_of, turn}
@@ -53,6 +55,16 @@ pub runs_on : (shape : Shape) (s t : PlantState) → IsSomeLive s → s.steps < 
 runs_on shape s t live some made ending w later =
     goes_on (unix_at s) [] ending w (is_none shape s live some) (subst (λ (x : Unix). RunsFrom shape x [] ending w) made later)
 
+-- where not all have ended some process is live
+pub some_live : (s : PlantState) → (AllHaveEnded s → ⊥) → IsSomeLive s
+some_live s some = elim (cases_Bool (is_any_live (unix_at s).processes 1 ((unix_at s).next_pid - 1))) [ inl live ↦ live | inr ended ↦ absurd (some ended) ]
+
+not_told : (answer : Bool) → answer ≡ false → IsTrue answer → ⊥
+not_told answer off on = absurd (cc)
+
+pub live_by : (s : PlantState) (answer : Bool) → IsTrue answer ↔ AllHaveEnded s → answer ≡ false → IsSomeLive s
+live_by s answer tells off = some_live s (λ ended. not_told answer off (tells.1 ended))
+
 -- from one machine to another of the same
 pub same_then : (a b c : PlantState) → IsSameMachine a b → IsSameMachine b c → IsSameMachine a c
 same_then a b c first then = record {
@@ -90,8 +102,8 @@ comes_first load first s sound same started =
       so_far = λ ending w later. subst (λ (u : Unix). RunsFrom load.shape u [] ending w) started later;
     }
 
-pub comes_on : (load : Load) (first s t : PlantState) → first.shape ≡ load.shape → HasCome load first s → IsTurned s t → t.traps ≤ s.traps + 1 → HasCome load first t
-comes_on load first s t shaped come turned more =
+pub comes_on : (load : Load) (first s t : PlantState) → first.shape ≡ load.shape → HasCome load first s → IsSomeLive s → IsTurned s t → t.traps ≤ s.traps + 1 → HasCome load first t
+comes_on load first s t shaped come live turned more =
     let shape : s.shape ≡ load.shape = come.same.shape ∙ shaped in
     let some : s.steps < load.shape.budget = some_left load first s t shaped come.same turned in
     record {
@@ -99,7 +111,7 @@ comes_on load first s t shaped come turned more =
       same = same_then first s t come.same turned.same;
       few = omega (arith, come.few, more, turned.steps);
       so_far = λ ending w later. come.so_far ending w
-          (runs_on load.shape s t turned.live some (subst (λ (m : Shape). unix_at t ≡ turn m (unix_at s)) shape turned.turn) ending w later);
+          (runs_on load.shape s t live some (subst (λ (m : Shape). unix_at t ≡ turn m (unix_at s)) shape turned.turn) ending w later);
     }
 
 -- a closing trap has a number
