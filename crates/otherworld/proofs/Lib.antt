@@ -1,5 +1,4 @@
 -- Lemmas of the program.
-pub mod Bootable
 pub mod Tops
 pub mod Reports
 pub mod Worked

@@ -533,6 +533,81 @@ fn several_processes_run(rt: HostRuntime) -> Result<(), Fail> {
     Ok(())
 }
 
+// Where the run of three_hi stands at each budget: from one budget to another its traps, its processes, and what was
+// written on both terminals.
+const STANDS: [(u32, u32, u32, &str, &str); 7] = [
+    (
+        0,
+        4,
+        1,
+        "live 1\nlive 2\nlive 3\n",
+        "tty 0 0\nscreen 0 0 0\ntty 1 0\nscreen 1 0 0\n",
+    ),
+    (
+        5,
+        9,
+        2,
+        "live 1\nlive 2\nlive 3\n",
+        "tty 0 3\nout Hi\\n\nscreen 0 1 0\nrow 0 Hi\ntty 1 0\nscreen 1 0 0\n",
+    ),
+    (
+        10,
+        14,
+        3,
+        "live 1\nlive 2\nlive 3\n",
+        "tty 0 3\nout Hi\\n\nscreen 0 1 0\nrow 0 Hi\ntty 1 3\nout Hi\\n\nscreen 1 1 0\nrow 0 Hi\n",
+    ),
+    (15, 17, 4, "live 1\nlive 2\nlive 3\n", ALL_OUT),
+    (18, 20, 5, "exit 1 code 0\nlive 2\nlive 3\n", ALL_OUT),
+    (21, 23, 6, "exit 1 code 0\nexit 2 code 0\nlive 3\n", ALL_OUT),
+    (
+        24,
+        25,
+        7,
+        "exit 1 code 0\nexit 2 code 0\nexit 3 code 0\n",
+        ALL_OUT,
+    ),
+];
+
+const ALL_OUT: &str =
+    "tty 0 6\nout Hi\\nHi\\n\nscreen 0 2 0\nrow 0 Hi\nrow 1 Hi\ntty 1 3\nout Hi\\n\nscreen 1 1 0\nrow 0 Hi\n";
+
+// The report of three_hi at a budget, by its place in the table.
+fn stands(
+    alloc: Global,
+    budget: u32,
+    traps: u32,
+    processes: &str,
+    screens: &str,
+) -> Result<String, AllocError> {
+    let steps = budget.min(24);
+    let ending = if budget < 24 { "budget" } else { "done" };
+    format!(in alloc;
+        "otherworld 1\nending {ending}\nsteps {steps}\ntraps {traps}\n{processes}{screens}end\n"
+    )
+}
+
+#[test]
+fn a_budget_may_end_at_any_step_of_three(rt: HostRuntime) -> Result<(), Fail> {
+    let alloc = rt.alloc();
+    for (first, last, traps, processes, screens) in STANDS {
+        for budget in first..=last {
+            let text = format!(in alloc;
+                "world 1\nframes 32\nsectors 4\nquantum 100\nbudget {budget}\nprogram a\ncode {HI}\ndata 000a6948\nstart a 0\nstart a 1\nstart a 0\nend\n"
+            )?;
+            let wanted = stands(alloc, budget, traps, processes, screens)?;
+            let (_, sink) = answer_to(
+                alloc,
+                "run",
+                &mut MemSource::new(Vec::from_slice(alloc, text.as_bytes())?, Vec::new(alloc)),
+                Vec::new(alloc),
+            )?;
+            assert_eq!(rt; sink.written(), wanted.as_bytes(), "budget {budget}");
+        }
+    }
+    Ok(())
+}
+
 #[test]
 fn faults_of_the_outside_are_told(rt: HostRuntime) -> Result<(), Fail> {
     let alloc = rt.alloc();

@@ -6,9 +6,10 @@ ghost use Rattle.ow_plant.specs.State.{IsReady};
 ghost use Rattle.otherworld.specs.Top.{unread_status, is_run as is_run_alone, refusal_text, bad_world_text, status_of as status_at, Intends, IsSaid, IsRead, IsReported, Answers};
 
 use crate::ow_report::write_report;
-use schedule_runner::run;
+use kernel_traps::worlds_can_boot;
 use ow_base::{Ending, Failed, ReadAllFault, Sink, Source, World, put_all, put_number, read_all};
 use ow_plant::Plant;
+use schedule_runner::run;
 use std::alloc::{AllocError, Global};
 use world_file::{Why, WorldFault, read_world};
 
@@ -172,6 +173,7 @@ fn run_world<K: Sink>(world: &World, plant: &mut Plant, sink: &mut K) -> Status
         × IsSaid text (status_at ending) (Rose (K.faults sink.old) (K.faults sink.new)) (K.written sink.old) (K.written sink.new) result }
     ensures never_falls { K.faults sink.old ≤ K.faults sink.new }
 {
+    worlds_can_boot();
     let ending = run(plant, &world.load);
     match write_report(sink, plant, ending) {
         Ok(()) => status_of(ending),

@@ -1,12 +1,11 @@
 use Rattle.std.proofs.Common.{refl, ◌∙◌, inl, inr}
 use Rattle.record_layouts.specs.Report.{report_of}
 use Rattle.kernel_traps.specs.Plants.{unix_at}
-use Rattle.otherworld.proofs.Bootable.{bootable}
 use Rattle.otherworld.proofs.Tops.{reports}
 use Rattle.otherworld.proofs.top.run_world.Goals as goal
 
 pub run-ending-requires-clause-load : goal.run-ending-requires-clause-load
-run-ending-requires-clause-load g c = bootable c.requires.value.0 c.args.world.now c.requires.value.1
+run-ending-requires-clause-load g c = c.worlds_can_boot.ensures.load c.requires.value.0 c.args.world.now c.requires.value.1
 
 pub returns-in-Ok-clause-reported : goal.returns-in-Ok-clause-reported
 returns-in-Ok-clause-reported g c =
