@@ -15,7 +15,7 @@ ghost use Rattle.kernel_traps.specs.Ending.{CanBeServed};
 
 use address_space::user_bytes;
 use intent_store::Live;
-use ow_base::{Efault, Panicked};
+use ow_base::Panicked;
 use record_layouts::{Patch, Writer};
 use syscalls::Service;
 use tty_screen::byte_patch;

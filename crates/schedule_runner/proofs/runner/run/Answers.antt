@@ -1,4 +1,4 @@
-use Rattle.std.proofs.Common.{◌≡◌, ◌∙◌, ◌⊎◌, ◌+◌, ◌<◌, ◌≤◌, false, true, Ok, All, List, [], inl, inr, sym, ap, subst, arith}
+use Rattle.std.proofs.Common.{◌≡◌, ◌∙◌, ◌<◌, ◌≤◌, true, Ok, All, List, [], inl, inr, sym, subst, arith}
 use Rattle.std.proofs.lemmas.Grind.{common_steps}
 use Rattle.ow_base.specs.declared.machine.Shape.{Shape}
 use Rattle.std.specs.List.{list_any}
@@ -9,7 +9,7 @@ use Rattle.ow_plant.specs.State.{PlantState, risen}
 use Rattle.ow_plant.specs.declared.points.PanicPoint.{PanicPoint}
 use Rattle.kernel_traps.specs.Plants.{IsSound, unix_at}
 use Rattle.kernel_traps.specs.Traps.{IsAllEnded}
-use Rattle.kernel_traps.specs.Turning.{AllHaveEnded, IsSomeLive, IsTurn}
+use Rattle.kernel_traps.specs.Turning.{IsSomeLive, IsTurn}
 use Rattle.kernel_traps.specs.declared.turns.Turn.{Turn}
 use Rattle.kernel_traps.specs.declared.turns.Turn.TheVariants as turns
 use Rattle.schedule_runner.proofs.Running.{comes_first, comes_nearer, comes_on, few_traps, live_by, runs_dry, runs_out, same_then, some_live}
