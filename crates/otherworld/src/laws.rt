@@ -1,3 +1,5 @@
+//! What holds of runs as a whole.
+
 ghost use Rattle.std.specs.Prelude.{◌≡◌, List};
 ghost use Rattle.record_layouts.specs.Run.{Run};
 ghost use Rattle.record_layouts.specs.Unix.{Unix};

@@ -1,3 +1,5 @@
+//! The report of a run that has ended, read from the plant and written to a sink.
+
 ghost use Rattle.std.specs.Prelude.{◌≡◌, ℕ, ◌+◌, ◌-◌, ◌^◌, ◌<◌, ◌≤◌, List, [], ◌∷◌, length, codes, decimal, flat_map, OnErr, Option, Some};
 ghost use Rattle.ow_base.specs.Lines.{line, spaced, number_line, escaped};
 ghost use Rattle.ow_base.specs.Outside.{Rose, Writes};

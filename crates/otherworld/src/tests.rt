@@ -1,3 +1,5 @@
+//! Tests of the whole program over sources and sinks in memory.
+
 use super::*;
 use ow_base::{MemSink, MemSource};
 use std::alloc::{AllocError, Global};

@@ -1,3 +1,5 @@
+//! The top call: it reads a world, runs it and writes the report, or says why not.
+
 ghost use Rattle.std.specs.Prelude.{◌≡◌, ◌≤◌, ◌<◌, ◌+◌, List, ℕ, false, true, [], IfOk, IfErr, OnErr};
 ghost use Rattle.ow_base.specs.Outside.{Rose, Writes};
 ghost use Rattle.ow_base.specs.World.{IsWorld};

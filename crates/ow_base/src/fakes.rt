@@ -1,3 +1,5 @@
+//! Sources and sinks in memory, of which some fail at calls that are listed.
+
 ghost use Rattle.std.specs.Prelude.{◌≡◌, ◌≢◌, ℕ, List, ◌-◌, ◌≤◌, ◌↔◌, ◌⊎◌, min, [], ◌++◌, length, take, drop, IsTrue, IsErr, IfOk, OnOk, OnErr, Some, vec_len};
 ghost use Rattle.ow_base.specs.Outside.{Rose, IsFront, Takes};
 ghost use Rattle.ow_base.specs.Fakes.{is_failing, paced, IsStuck, read_count, after_read, after_failed_read};

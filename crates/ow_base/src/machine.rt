@@ -1,3 +1,5 @@
+//! Plain data of the machine: registers, banks, faults, shapes, and why a trap came.
+
 ghost use Rattle.std.specs.Prelude.{◌≡◌, ◌<◌};
 
 use std::marker::Model;

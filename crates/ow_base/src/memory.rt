@@ -1,3 +1,5 @@
+//! What has words of memory.
+
 ghost use Rattle.std.specs.Prelude.{◌≡◌, ◌<◌, ℕ, Option};
 
 /// Memory that can be read: frames of 1,024 words each.

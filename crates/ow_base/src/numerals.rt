@@ -1,3 +1,5 @@
+//! Numerals: decimal without leading zeros, and eight hexadecimal digits.
+
 ghost use Rattle.std.specs.Prelude.{◌≡◌, ℕ, ◌+◌, ◌*◌, ◌^◌, ◌<◌, ◌≤◌, [], ◌∷◌, length, slice_index, false, IsTrue, IfSome, IfNone, decimal};
 ghost use Rattle.std.specs.Char.{digit_value};
 ghost use Rattle.std.specs.Str.Parse.{IsNumeral, digits_value};

@@ -1,3 +1,5 @@
+//! The world outside: what bytes come from, and what they go to.
+
 ghost use Rattle.std.specs.Prelude.{◌≡◌, ◌≢◌, ℕ, ◌≤◌, List, [], Option, length, take, OnOk, OnErr, IfOk};
 ghost use Rattle.ow_base.specs.Outside.{Rose, appended, IsFront, OnTold, Takes};
 

@@ -1,3 +1,5 @@
+//! The seal of a record, which a change of one word breaks.
+
 ghost use Rattle.std.specs.Prelude.{◌≡◌, ◌≢◌, ℕ, ◌^◌, ◌<◌, ◌≤◌, ◌↔◌, List, length, slice_index, slice_set, IsTrue};
 ghost use Rattle.ow_base.specs.Seals.{seal_from, AreWords, IsSealed, sealed};
 

@@ -1,3 +1,5 @@
+//! A vector that contracts see as the list of its items.
+
 use std::marker::Model;
 
 /// A vector that contracts see as the list of its items. No call of it takes memory.

@@ -1,3 +1,5 @@
+//! Standard input and output as a source and a sink.
+
 ghost use Rattle.std.specs.Prelude.{◌≡◌, ◌≢◌, List, [], ◌≤◌, length, take, None, IfOk, OnOk, OnErr};
 ghost use Rattle.std.specs.Io.KnownBytes.{ReadConsumes, WriteAppends};
 ghost use Rattle.ow_base.specs.Fakes.{risen};

@@ -1,3 +1,5 @@
+//! Tests of bytes in and out.
+
 use crate::{
     Failed, FixedSink, FixedSource, MemSink, MemSource, ReadAllFault, Sink, Source, StdSink,
     StdSource, put_all, put_escaped, put_number, read_all,

@@ -1,3 +1,5 @@
+//! Reading all of a source, and writing texts whole.
+
 ghost use Rattle.std.specs.Prelude.{◌≡◌, ◌<◌, ◌≤◌, length, vec_len, decimal, IfOk, OnErr, IsErr, IsErrOf};
 ghost use Rattle.ow_base.specs.Lines.{escaped, escaped_byte, hex_digit};
 ghost use Rattle.ow_base.specs.Outside.{Rose, OnTold, TakesAll, TakesOver, Writes};

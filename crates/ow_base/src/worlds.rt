@@ -1,3 +1,5 @@
+//! Plain data of worlds and runs: what a world text says, and what a panic leaves.
+
 use crate::machine::{AreaId, Shape};
 use crate::sequence::List;
 use arrayvec::ArrayVec;

@@ -1,3 +1,5 @@
+//! Tests of the plant: displays, page tables, counts, and stores that are refused.
+
 ghost use Rattle.std.specs.Prelude.{◌≡◌, ◌≤◌, ◌<◌, true, [], IfOk};
 ghost use Rattle.ow_plant.specs.State.{silent_terminal};
 

@@ -1,3 +1,5 @@
+//! Tests of memory and of its split.
+
 use crate::Memory;
 use ow_base::{AreaId, WordSource};
 use std::alloc::{AllocError, Global};

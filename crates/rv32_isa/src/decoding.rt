@@ -1,3 +1,5 @@
+//! Which instruction a word is.
+
 ghost use Rattle.std.specs.Prelude.{◌≡◌, ℕ, ◌<◌, ◌≤◌, ◌^◌, List, ◌==◌, if◌then◌else◌, IfSome, IfNone};
 ghost use Rattle.ow_base.specs.Words.{bits};
 ghost use Rattle.ow_base.specs.UserStep.{

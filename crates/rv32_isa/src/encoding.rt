@@ -1,3 +1,5 @@
+//! Which word an instruction has.
+
 ghost use Rattle.std.specs.Prelude.{◌≡◌, ◌<◌, ◌^◌, true};
 ghost use Rattle.rv32_isa.specs.Table.{
   r_word,

@@ -1,3 +1,5 @@
+//! The fields of instructions: registers, immediates and offsets, each of its own range.
+
 ghost use Rattle.std.specs.Prelude.{◌≡◌, ◌<◌, ◌%◌, ◌^◌};
 ghost use Rattle.std.specs.Option.{SomeIff};
 ghost use Rattle.ow_base.specs.Words.{sign_extended};

@@ -1,3 +1,5 @@
+//! The 40 instructions of the table.
+
 use crate::fields::{BranchOffset, Immediate, JumpOffset, Register, ShiftAmount, UpperImmediate};
 
 /// An instruction of RV32I 2.1, in the manual's names and order.

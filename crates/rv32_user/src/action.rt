@@ -1,3 +1,5 @@
+//! What an instruction asks for: a register to set, a jump, a load, a store, a call or a fault.
+
 ghost use Rattle.std.specs.Prelude.{◌≡◌, ◌+◌};
 ghost use Rattle.ow_base.specs.Words.{wrapped};
 ghost use Rattle.ow_base.specs.UserStep.{Jumps, Branches, Loads, Stores, register, signed_lt};

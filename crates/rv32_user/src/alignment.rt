@@ -1,3 +1,5 @@
+//! Alignment of addresses, and loaded values as registers take them.
+
 ghost use Rattle.std.specs.Prelude.{◌≡◌, ◌^◌, ◌<◌};
 ghost use Rattle.ow_base.specs.UserStep.{size_of, is_aligned, extended};
 

@@ -1,3 +1,5 @@
+//! What the instructions compute that name registers alone.
+
 ghost use Rattle.std.specs.Prelude.{◌≡◌, ◌<◌, true, nat_lt};
 ghost use Rattle.ow_base.specs.UserStep.{Sets, register, signed_lt, one_if, shifted_right_signed};
 ghost use Rattle.rv32_isa.specs.Table.{is_computation};

@@ -1,3 +1,5 @@
+//! Memory as a program sees it.
+
 ghost use Rattle.std.specs.Prelude.{◌≡◌, ◌%◌, ◌^◌, ◌<◌, Ok, Err, OnOk, OnErr, IfOk, IfErr};
 ghost use Rattle.ow_base.specs.UserStep.{Spaces, size_of};
 

@@ -1,3 +1,5 @@
+//! One step of a program: fetch, decode and do.
+
 ghost use Rattle.std.specs.Prelude.{◌≡◌, ◌+◌, ℕ, List};
 ghost use Rattle.ow_base.specs.Words.{wrapped};
 ghost use Rattle.ow_base.specs.UserStep.{user_step, acted, fault_at};

@@ -1,3 +1,5 @@
+//! The entries of page tables (RISC-V manual, volume II, Sv32).
+
 ghost use Rattle.std.specs.Prelude.{◌≡◌, ◌<◌, ◌^◌};
 ghost use Rattle.ow_base.specs.Sv32.{is_set, frame_named, is_valid, is_leaf, permits, allows};
 ghost use Rattle.sv32_tables.specs.Entries.{leaf_word, pointer_word};

@@ -1,3 +1,5 @@
+//! The walk from an address of a program to a frame of memory (RISC-V manual, volume II, Sv32).
+
 ghost use Rattle.std.specs.Prelude.{◌≡◌, ◌<◌, ◌^◌, ◌%◌, ◌/◌, true, IfOk, is_some};
 ghost use Rattle.ow_base.specs.Words.{bits};
 ghost use Rattle.ow_base.specs.Sv32.{translated, by_first, by_superpage, by_last, by_leaf};

@@ -1,3 +1,5 @@
+//! What a line is by its first word.
+
 ghost use Rattle.std.specs.Prelude.{◌≡◌, bytes_eq};
 ghost use Rattle.world_file.specs.WorldLines.{key_of, is_unbuilt_word};
 

@@ -1,3 +1,5 @@
+//! One line of a world text: its words and fields.
+
 ghost use Rattle.std.specs.Prelude.{◌≡◌, ℕ, ◌+◌, ◌<◌, ◌++◌, List, [], ◌∷◌, length, map, filter_map, IfSome, IfNone, IfOk};
 ghost use Rattle.std.specs.List.{list_all, list_any};
 ghost use Rattle.world_file.specs.WorldLines.{pieces, words, word_at, fields, key, number_of, word_of, is_visible, is_name, is_number, is_word, is_empty, number_at, words_of};

@@ -1,3 +1,5 @@
+//! The reader of a world text: line after line, up to the first that is refused or to the end.
+
 ghost use Rattle.std.specs.Prelude.{◌≡◌, ℕ, ◌+◌, ◌≤◌, ◌⊎◌, if◌then◌else◌, List, length, IfOk, IfErr, Ok, Err};
 ghost use Rattle.ow_base.specs.World.{IsWorld};
 ghost use Rattle.ow_base.specs.declared.worlds.World.{World};

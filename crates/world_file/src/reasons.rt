@@ -1,3 +1,5 @@
+//! The first reason for which a line is refused.
+
 ghost use Rattle.std.specs.Prelude.{◌≡◌, Option};
 ghost use Rattle.world_file.specs.WorldLines.{fields};
 ghost use Rattle.world_file.specs.WorldReasons.{first_reason, counted_place, place_of, head_place, is_no_first_line, is_unbuilt, exceeds, has_too_many_words, has_fields, lacks_fields, has_no_number, has_no_name, has_no_word, comes_twice, names_no_program, exceeds_frames};

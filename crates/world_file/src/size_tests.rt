@@ -1,3 +1,5 @@
+//! Tests of the limits of a world text.
+
 use super::*;
 use ow_base::Start;
 use std::alloc::{AllocError, Global};

@@ -1,3 +1,5 @@
+//! What the lines so far have said.
+
 ghost use Rattle.std.specs.Prelude.{◌≡◌, ℕ, ◌+◌, ◌<◌, ◌≤◌, nat_lt, ◌++◌, List, [], ◌∷◌, length, slice_get, IfOk, Option, Some, None, option_map, option_to_list, bytes_eq, find};
 ghost use Rattle.std.specs.List.{list_any, position_or_len};
 ghost use Rattle.ow_base.specs.World.{page_count, started_page_count, pages_of_found, start_pages};

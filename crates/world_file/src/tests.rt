@@ -1,3 +1,5 @@
+//! Tests of the lines of a world text and of their reasons.
+
 use super::*;
 use std::alloc::{AllocError, Global};
 use std::process::Abort;

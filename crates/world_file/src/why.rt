@@ -1,3 +1,5 @@
+//! The reasons for which a line is refused, and their words.
+
 ghost use Rattle.std.specs.Prelude.{◌≡◌};
 ghost use Rattle.world_file.specs.WorldReasons.{reason_text};
 

@@ -1,3 +1,5 @@
+//! Tests of seals.
+
 use super::{is_sealed, put_seal, seal};
 
 // By hand: 1 turned by five bits is 0x20, and with 2 that is 0x22; 0x8000_0000 turned is 0x10.

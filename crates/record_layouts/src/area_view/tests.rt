@@ -1,3 +1,5 @@
+//! Tests of the view of an area.
+
 use super::AreaView;
 use crate::{
     CacheRec, DescRec, ExitRec, FileRec, HeadRec, MemoryMap, ProcRec, RecordView, RowRec, SigRec,

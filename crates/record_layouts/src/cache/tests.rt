@@ -1,3 +1,5 @@
+//! Tests of cache records.
+
 use super::CacheRec;
 use ow_base::put_seal;
 

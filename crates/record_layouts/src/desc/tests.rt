@@ -1,3 +1,5 @@
+//! Tests of the records of descriptions.
+
 use super::DescRec;
 use ow_base::put_seal;
 

@@ -1,3 +1,5 @@
+//! Tests of exit records.
+
 use super::ExitRec;
 use ow_base::put_seal;
 

@@ -1,3 +1,5 @@
+//! Tests of file records.
+
 use super::FileRec;
 use ow_base::put_seal;
 

@@ -1,3 +1,5 @@
+//! Tests of the head.
+
 use super::HeadRec;
 use ow_base::put_seal;
 

@@ -1,3 +1,5 @@
+//! Tests of patches.
+
 use super::{AnyRec, Patch, PatchItem};
 use crate::{ExitRec, HeadRec, RecordId};
 

@@ -1,3 +1,5 @@
+//! Tests of where records lie.
+
 use super::{RecordId, address};
 
 // The first record of each kind and the last, and those beside the end of a frame.

@@ -1,3 +1,5 @@
+//! Tests of process records.
+
 use super::ProcRec;
 use ow_base::{Bank, Regs, put_seal};
 

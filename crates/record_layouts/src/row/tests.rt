@@ -1,3 +1,5 @@
+//! Tests of row records.
+
 ghost use Rattle.record_layouts.specs.Row.{FitsRow};
 
 use super::RowRec;

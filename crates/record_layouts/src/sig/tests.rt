@@ -1,3 +1,5 @@
+//! Tests of the records of signals.
+
 use super::SigRec;
 use ow_base::put_seal;
 

@@ -1,3 +1,5 @@
+//! Tests of the records of terminals.
+
 use super::TermRec;
 use ow_base::put_seal;
 
