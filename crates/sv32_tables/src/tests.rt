@@ -79,39 +79,29 @@ fn if_given(given: bool, frame: u32, offset: u32) -> Result<Phys, PageCause> {
     }
 }
 
-// Each way to set the ten lowest bits of a leaf of the last level, and of the first.
+// Each way to set the ten lowest bits of a leaf of the last level, of one of the first, and of an entry of the first that
+// names no aligned superpage: this one leads on where V is set and R, W and X are clear, whatever the others are.
 #[test]
-fn flags_of_leaves(rt: HostRuntime) {
+fn flags_of_entries(rt: HostRuntime) {
     let mut memory = Memory::new(1024);
     memory.set_root(1, pointer(1025));
+    memory.set_last(4, leaf(1026, Rights::Values));
     for flags in 0..1024 {
         memory.set_last(2, 1026 * 1024 + flags);
         memory.set_root(3, 1024 * 1024 + flags);
+        memory.set_root(4, 1025 * 1024 + flags);
+        let through = walk(&memory, MODE + 1024, 0x0100_4ffe, Access::Load);
+        assert_eq!(rt;
+            through,
+            if_given(flags & 15 == 1, 1026, 0xffe),
+            "{flags:x}"
+        );
         for access in ACCESSES {
             let given = gives(flags, access);
             let last = walk(&memory, MODE + 1024, 0x0040_2345, access);
             assert_eq!(rt; last, if_given(given, 1026, 0x345), "{flags:x} {access:?}");
             let first = walk(&memory, MODE + 1024, 0x00c0_2345, access);
             assert_eq!(rt; first, if_given(given, 1026, 0x345), "{flags:x} {access:?}");
-        }
-    }
-}
-
-// Each way to set the ten lowest bits of an entry of the first level that names no aligned superpage: it leads
-// on where V is set and R, W and X are clear, whatever the others are.
-#[test]
-fn flags_of_pointers(rt: HostRuntime) {
-    let mut memory = Memory::new(1024);
-    memory.set_last(2, 1026 * 1024 + 0xdf);
-    for flags in 0..1024 {
-        memory.set_root(1, 1025 * 1024 + flags);
-        for access in ACCESSES {
-            let answer = walk(&memory, MODE + 1024, 0x0040_2ffe, access);
-            assert_eq!(rt;
-                answer,
-                if_given(flags & 15 == 1, 1026, 0xffe),
-                "{flags:x} {access:?}"
-            );
         }
     }
 }
@@ -170,28 +160,5 @@ fn places_of_tables(rt: HostRuntime) {
     for root in [0, 1023, 1027, 0x3f_ffff] {
         let found = walk(&memory, MODE + root, 0x0040_2000, Access::Load);
         assert_eq!(rt; found, Err(PageCause::Access), "root {root:x}");
-    }
-}
-
-// Root, table and page in the last three frames that an entry can name, and what the two kinds of leaf give.
-#[test]
-fn last_frames(rt: HostRuntime) {
-    let mut memory = Memory::new(0x3f_fffd);
-    memory.set_root(512, pointer(0x3f_fffe));
-    memory.set_root(513, leaf(0x3f_fc00, Rights::Code));
-    memory.set_last(0, leaf(0x3f_ffff, Rights::Code));
-    memory.set_last(1, leaf(0x3f_ffff, Rights::Values));
-    let here = place(0x3f_ffff, 0x10);
-    let page = Err(PageCause::Page);
-    let table = [
-        (0x8000_0010, [here, here, page]),
-        (0x8000_1010, [page, here, here]),
-        (0x807f_f010, [here, here, page]),
-    ];
-    for (address, answers) in table {
-        for (access, answer) in ACCESSES.into_iter().zip(answers) {
-            let found = walk(&memory, MODE + 0x3f_fffd, address, access);
-            assert_eq!(rt; found, answer, "{access:?} at {address:x}");
-        }
     }
 }
