@@ -9,16 +9,22 @@ use std::test::Fail;
 fn a_split_lends_one_half(rt: HostRuntime) -> Result<(), Fail> {
     let mut memory = Memory::new(rt.alloc(), 0)?;
     assert_eq!(rt; memory.frame_count(), 257);
+    let (rest, mut own) = memory.split(AreaId::A);
+    assert_eq!(rt; (rest.load(128, 1023), rest.load(129, 0)), (Some(0), None));
+    assert!(rt; !own.has_frame(128));
+    assert!(rt; own.has_frame(129));
+    own.store(129, 0, 7);
+    assert_eq!(rt; own.load(129, 0), 7);
+    assert_eq!(rt; memory.load(129, 0), Some(7));
+    Ok(())
+}
+
+#[test]
+fn copies_a_frame(rt: HostRuntime) -> Result<(), Fail> {
+    let mut memory = Memory::new(rt.alloc(), 0)?;
     memory.store(128, 1023, 5);
     memory.copy_frame(AreaId::A, 128, 256);
-    let (rest, mut own) = memory.split(AreaId::A);
-    assert_eq!(rt; rest.load(128, 1023), Some(5));
-    assert_eq!(rt; rest.load(129, 0), None);
-    assert!(rt; own.has_frame(256) && !own.has_frame(128));
-    assert_eq!(rt; own.load(256, 1023), 5);
-    own.store(129, 0, 7);
-    assert_eq!(rt; memory.load(129, 0), Some(7));
-    assert_eq!(rt; memory.load(257, 0), None);
+    assert_eq!(rt; memory.load(256, 1023), Some(5));
     Ok(())
 }
 
