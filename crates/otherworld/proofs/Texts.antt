@@ -1,5 +1,5 @@
 -- Which texts are run, and which are refused.
-use Rattle.std.proofs.Common.{◌≡◌, ℕ, ◌⊎◌, inl, inr, refl, sym, subst, ◌∙◌, ap, List, Option, Some}
+use Rattle.std.proofs.Common.{◌≡◌, ℕ, ◌⊎◌, inl, inr, true, refl, sym, subst, List, Option, Some}
 use Rattle.ow_base.specs.Outside.{Rose}
 use Rattle.ow_base.specs.World.{IsWorld}
 use Rattle.ow_base.specs.declared.worlds.World.{World}
@@ -15,7 +15,7 @@ use Rattle.otherworld.specs.declared.top.Status.TheVariants.{Done, Usage, BadWor
 use Rattle.otherworld.specs.Top.{Intends, IsSaid, IsRun, MayAnswer, IsCalm, status_of}
 
 -- a text that is of a world of the built forms
-Spells : (input : List ℕ) → Type 0
+abbrev pub Spells : (input : List ℕ) → Type 0
 Spells input = (world : World) × IsWorld input world × IsBuilt world
 
 not_write : (e : Ending) → status_of e ≡ WriteFault → ⊥
