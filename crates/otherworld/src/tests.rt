@@ -30,13 +30,7 @@ fn answer_to(
         }
     }
     let mut plant = Plant::new(alloc);
-    Ok(otherworld(
-        alloc,
-        words.as_slice(),
-        source,
-        sink,
-        &mut plant,
-    ))
+    Ok(otherworld(alloc, words.as_slice(), source, sink, &mut plant))
 }
 
 #[test]
@@ -70,8 +64,9 @@ fn streams_may_fail_at_any_call(rt: HostRuntime) -> Result<(), Fail> {
     for (words, pace, read, write, status, text) in rows {
         let input = Vec::from_slice(alloc, HI.as_bytes())?;
         let mut source = MemSource::new(input, vec![in alloc; read]?).with_pace(pace);
-        let mut sink =
-            MemSink::new(vec![in alloc; 0; 1000]?, vec![in alloc; write]?).with_pace(pace);
+        let mut sink = MemSink::new(vec![in alloc; 0; 1000]?, vec![in alloc; write]?).with_pace(
+            pace,
+        );
         let answer = answer_to(alloc, words, &mut source, &mut sink)?;
         assert_eq!(rt; answer, status, "{words} {pace} {read} {write}");
         let written = sink.written();
