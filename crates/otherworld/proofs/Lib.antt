@@ -2,3 +2,4 @@
 pub mod Tops
 pub mod Reports
 pub mod Worked
+pub mod Texts

@@ -1,7 +1,7 @@
 -- What the program answers, and what it writes.
 use Rattle.std.specs.Prelude.{◌≡◌, ℕ, ◌+◌, ◌≤◌, Bool, true, false, List, [], ◌∷◌, ◌++◌, length, drop, codes, decimal, Option, Some, String, string_bytes, bytes_eq, ◌⊎◌}
 use Rattle.ow_base.specs.Lines.{line}
-use Rattle.ow_base.specs.Outside.{appended, IsFront, OnTold}
+use Rattle.ow_base.specs.Outside.{appended, IsFront, OnTold, Rose}
 use Rattle.ow_base.specs.World.{IsWorld}
 use Rattle.record_layouts.specs.Unix.{Unix}
 use Rattle.record_layouts.specs.Run.{Run}
@@ -16,7 +16,7 @@ use Rattle.world_file.specs.declared.reader.WorldFault.{WorldFault}
 use Rattle.world_file.specs.declared.reader.WorldFault.TheVariants.{Bad}
 use Rattle.world_file.specs.declared.reader.WorldFault.TheVariants as fault
 use Rattle.world_file.specs.WorldReasons.{reason_text}
-use Rattle.world_file.specs.WorldRefusals.{IsRefused}
+use Rattle.world_file.specs.WorldRefusals.{IsBuilt, IsRefused}
 use Rattle.otherworld.specs.declared.top.Status.{Status}
 use Rattle.otherworld.specs.declared.top.Status.TheVariants.{Done, Usage, BadWorld, ReadFault, WriteFault, Memory, Budget, Restarted}
 
@@ -87,12 +87,13 @@ pub record PlantAgrees (plant : PlantState) (w : Unix) : Type 0 where
   pub display0 : plant.tty0.display ≡ shown_on (w.terminals 0)
   pub display1 : plant.tty1.display ≡ shown_on (w.terminals 1)
 
--- a world was read from all that was left
+-- a world of the forms that can be read was read from all that was left
 pub record IsRead (left after : Option (List ℕ)) (world : World) : Type 0 where
   pub input : List ℕ
   pub told : OnTold left (λ bytes. (input ≡ bytes) × (after ≡ Some []))
   pub small : length input ≤ most_bytes
   pub value : IsWorld input world
+  pub built : IsBuilt world
 
 -- a run of the world ended so (RunHolds), it left this plant (PlantAgrees), and the text is its report
 -- (OutputExact)
@@ -132,3 +133,20 @@ IsSaid text status write_rose written after answer =
 abbrev pub Answers : (intends : Status → List ℕ → Type 0) → (write_rose : Type 0) → (written after : Option (List ℕ)) → (answer : Status) → Type 0
 Answers intends write_rose written after answer =
     (status : Status) × (text : List ℕ) × intends status text × IsSaid text status write_rose written after answer
+
+-- what `otherworld` may answer, by its clause `answers`, to the word `run` alone where its source tells this input
+pub record MayAnswer (input : List ℕ) (answer : Status) : Type 0 where
+  pub left : Option (List ℕ)
+  pub written : Option (List ℕ)
+  pub all : Option (List ℕ)
+  pub old : PlantState
+  pub new : PlantState
+  pub reads : ℕ
+  pub more_reads : ℕ
+  pub writes : ℕ
+  pub more_writes : ℕ
+  pub answers : Answers (Intends true (Some input) left (Rose reads more_reads) old new) (Rose writes more_writes) written all answer
+
+-- neither its source nor its sink failed
+abbrev pub IsCalm : {input : List ℕ} {answer : Status} → MayAnswer input answer → Type 0
+IsCalm may = (Rose may.reads may.more_reads → ⊥) × (Rose may.writes may.more_writes → ⊥)

@@ -7,7 +7,7 @@ mod ow_report;
 mod rows;
 mod top;
 
-pub use laws::one_run;
+pub use laws::{built_worlds_alone_run, one_run};
 use ow_base::{StdSink, StdSource};
 use ow_plant::Plant;
 pub use rows::{

@@ -62,7 +62,8 @@ read_on (line ∷ behind) next ahead read =
     ∙ step_on (facts behind) (length behind) line next ahead read.0 read.1
     ∙ read_further behind line next ahead
 
-in_time : (text : List ℕ) → length text ≤ 1048576 → read_text text ≡ read_lines nothing_said 0 (pieces 10 text)
+-- a text that is not too long is read by its lines
+pub in_time : (text : List ℕ) → length text ≤ 1048576 → read_text text ≡ read_lines nothing_said 0 (pieces 10 text)
 unfolding read_text
 in_time text size =
     let test : nat_lt 1048576 (length text) ≡ false = grind (arith, common_steps) in

@@ -14,6 +14,4 @@ pub use reader::{
 pub use why::Why;
 
 #[cfg(test)]
-mod size_tests;
-#[cfg(test)]
 mod tests;

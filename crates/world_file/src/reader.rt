@@ -7,7 +7,7 @@ ghost use Rattle.world_file.specs.declared.why.Why.{Why};
 ghost use Rattle.world_file.specs.declared.reader.WorldFault.TheVariants.{Bad, Memory};
 ghost use Rattle.world_file.specs.declared.why.Why.TheVariants.{End};
 ghost use Rattle.world_file.specs.WorldLines.{pieces, is_empty};
-ghost use Rattle.world_file.specs.WorldReading.{Gives, nothing_said, world_of, read_lines, read_text};
+ghost use Rattle.world_file.specs.WorldReading.{Gives, nothing_said, world_of, read_lines};
 ghost use Rattle.world_file.specs.WorldRefusals.{IsBuilt, IsRefused, IsRefusedFault};
 
 use crate::line::{Line, cut};
@@ -82,20 +82,6 @@ fn read_lines(alloc: Global, text: &[u8]) -> Result<World, WorldFault>
     })
 }
 
-// The world of a text.
-#[tactic(auto, unfolding(crate::specs::WorldReading::read_text))]
-fn read_text(alloc: Global, text: &[u8]) -> Result<World, WorldFault>
-    ensures { Gives result (read_text text.now) }
-{
-    if text.len() > MOST_BYTES {
-        return Err(WorldFault::Bad {
-            line: 0,
-            why: Why::TooLarge,
-        });
-    }
-    read_lines(alloc, text)
-}
-
 /// A text is that of one world at most.
 pub fn one_world()
     ensures { (text : List ℕ) (a b : World) → IsWorld text a → IsWorld text b → a ≡ b }
@@ -128,5 +114,11 @@ pub fn read_world(alloc: Global, bytes: &[u8]) -> Result<World, WorldFault>
     // What is refused is refused at this line, for this reason.
     ensures refused { IfErr result (IsRefusedFault bytes.now) }
 {
-    read_text(alloc, bytes)
+    if bytes.len() > MOST_BYTES {
+        return Err(WorldFault::Bad {
+            line: 0,
+            why: Why::TooLarge,
+        });
+    }
+    read_lines(alloc, bytes)
 }
