@@ -5,7 +5,7 @@ use Rattle.record_layouts.specs.declared.places.RecordId.TheVariants as id
 use Rattle.record_layouts.specs.declared.file.FileRec.{FileRec}
 use Rattle.ow_plant.specs.State.{PlantState}
 use Rattle.intent_store.specs.Live.{held_of}
-use Rattle.kernel_traps.specs.BootRecords.{no_file}
+use Rattle.kernel_traps.specs.BootRecords.{unused_file}
 use Rattle.kernel_traps.proofs.BootRecords.{file_more, set_none}
 use Rattle.kernel_traps.proofs.booting.records.set_files.Goals as goal
 
@@ -13,7 +13,7 @@ pub loop-index-init : goal.loop-index-init
 loop-index-init c =
     let h = held_of c.args.plant.now in
     record {
-      held = ap (λ (f : ℕ → Option FileRec). record h { records = record h.records { files = f } }) (sym (set_none 0 (λ i. no_file) h.records.files));
+      held = ap (λ (f : ℕ → Option FileRec). record h { records = record h.records { files = f } }) (sym (set_none 0 (λ i. unused_file) h.records.files));
       booting = c.requires.booting;
     }
 
