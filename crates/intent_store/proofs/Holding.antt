@@ -18,7 +18,7 @@ use Rattle.record_layouts.specs.Held.{Held, Records, beside, patched, with_items
 use Rattle.record_layouts.specs.Overlay.{HasArea, area_at}
 use Rattle.record_layouts.specs.Reading.{is_readable_gate, records_in, records_of}
 use Rattle.intent_store.specs.Blocks.{IsSeenAs, IsSeenSet, seen}
-use Rattle.intent_store.specs.Live.{IsStanding, base_of, gate_held, held_of, is_able, map_of, records_held, rest_of}
+use Rattle.intent_store.specs.Live.{IsStanding, base_of, gate_held, held_of, map_of, records_held, rest_of}
 use Rattle.intent_store.proofs.Plants.{armed_by_rest}
 
 -- an armed plant has the area of the kernel that runs
@@ -40,9 +40,6 @@ area_there s is frame word low fits =
 
 pub has_area : (s : PlantState) → IsArmed s → HasArea (words_of s.memory) (map_of s).area_base
 has_area s is = record { numbered = base_room s.live s.shape.user_frames is.few_frames; there = area_there s is }
-
-pub able_by : (s : PlantState) → IsArmed s → s.refused ≡ false → is_able s ≡ true
-able_by s is free = rw (is.armed, free) refl
 
 pub map_same : (old new : PlantState) → rest_of new ≡ rest_of old → map_of new ≡ map_of old
 map_same old new e = ap (λ (s : PlantState). map_of s) e
@@ -115,13 +112,6 @@ standing_held old new stands e = standing_as old new stands (ap (λ (h : Held Pl
 
 pub standing_patched : (items : List PatchItem) (old new : PlantState) → IsStanding old → held_of new ≡ patched items (held_of old) → IsStanding new
 standing_patched items old new stands e = standing_set items old new stands (ap (λ (h : Held PlantState). h.rest) e) (ap (λ (h : Held PlantState). h.records) e)
-
--- what is said of the refusal
-pub free_by : (s : PlantState) → is_able s ≡ true → s.refused ≡ false
-free_by s able = grind (arith, nat_tests, able)
-
-pub refused_by : (s : PlantState) → s.armed ≡ true → is_able s ≡ false → s.refused ≡ true
-refused_by s armed able = grind (arith, nat_tests, armed, able)
 
 pub shut_gate : (s : PlantState) (base : ℕ) → base ≡ (map_of s).area_base → area_at (words_of s.memory) base 16 ≡ 0 → gate_held s ≡ Closed
 shut_gate s base e shut = grind (arith, nat_tests, e, shut)

@@ -1,5 +1,5 @@
 -- Stores of a plant, as the kernel that runs on it sees them.
-use Rattle.std.proofs.Common.{◌≡◌, ℕ, ◌<◌, true, false, List, [], ◌∷◌, length, slice_set, replicate, is_some, sym, ap, ◌∙◌, arith, length-set}
+use Rattle.std.proofs.Common.{◌≡◌, ℕ, ◌<◌, true, None, List, [], ◌∷◌, length, slice_set, replicate, is_some, sym, ap, ◌∙◌, arith, length-set}
 use Rattle.std.proofs.lemmas.Bool.Decides.{nat_tests}
 use Rattle.std.proofs.lemmas.Grind.{common_steps}
 use Rattle.std.proofs.lemmas.List.{length-replicate}
@@ -30,7 +30,7 @@ blank-stored m frame word value = grind (arith, nat_tests, blank-set)
 
 -- a store changes nothing else
 pub rest_stored : (s : PlantState) (frame word value : ℕ) → rest_of (with_stored s frame word value) ≡ rest_of s
-rest_stored s frame word value = ap (λ m. record s { memory = m; refused = false; stores = 0; all_stores = 0 }) (blank-stored s.memory frame word value)
+rest_stored s frame word value = ap (λ m. record s { memory = m; refusal = None; stores = 0; all_stores = 0 }) (blank-stored s.memory frame word value)
 
 blank-length : (some other : List ℕ) → blank_words some ≡ blank_words other → length some ≡ length other
 blank-length some other e = sym (length-replicate (length some) 0) ∙ ap (λ ws. length ws) e ∙ length-replicate (length other) 0

@@ -1,8 +1,8 @@
--- Words of a frame that are stored one by one.
-use Rattle.std.proofs.Common.{◌≡◌, ℕ, ◌+◌, ◌<◌, true, is_some, arith}
+-- Words of a frame that are stored one by one, and words of which none is stored.
+use Rattle.std.proofs.Common.{◌≡◌, ℕ, ◌+◌, ◌<◌, true, is_some, refl, ◌∙◌, arith}
 use Rattle.std.proofs.lemmas.Bool.Decides.{nat_tests}
 use Rattle.ow_base.specs.Sv32.{WordMap}
-use Rattle.intent_store.specs.Stores.{with_first, with_frame, with_word_at}
+use Rattle.intent_store.specs.Stores.{KeepsUnstored, with_first, with_frame, with_word_at}
 
 module _ (words : WordMap) (frame : ℕ) (value : ℕ → ℕ) where
   first-none_word : (f w : ℕ) → words f w ≡ with_first words frame 0 value f w
@@ -27,3 +27,12 @@ module _ (words : WordMap) (frame : ℕ) (value : ℕ → ℕ) where
   pub first-there : (count word : ℕ) → is_some (words frame word) ≡ true → is_some (with_first words frame count value frame word) ≡ true
   unfolding with_frame
   first-there count word there = grind (arith, nat_tests, there)
+
+pub unstored_same : (made : ℕ) (words : WordMap) → KeepsUnstored made made words words
+unstored_same made words = λ none. (none, refl)
+
+pub unstored_then : (first middle last : ℕ) (old between new : WordMap) → KeepsUnstored first middle old between → KeepsUnstored middle last between new → KeepsUnstored first last old new
+unstored_then first middle last old between new before behind = λ none.
+    let later = behind none in
+    let earlier = before later.0 in
+    (earlier.0, later.1 ∙ earlier.1)

@@ -1,10 +1,10 @@
 -- What contracts see of the kernel that runs on a plant.
-use Rattle.std.specs.Prelude.{◌≡◌, ℕ, ◌+◌, Bool, true, false, not, ◌&&◌, List, [], length, replicate, is_some}
+use Rattle.std.specs.Prelude.{◌≡◌, ℕ, ◌+◌, Bool, true, not, ◌&&◌, List, [], length, replicate, is_some, None}
 use Rattle.std.specs.List.{list_any}
 use Rattle.ow_base.specs.declared.machine.AreaId.{AreaId}
 use Rattle.ow_base.specs.declared.machine.AreaId.TheVariants.{A, B}
 use Rattle.ow_plant.specs.Points.{is_in}
-use Rattle.ow_plant.specs.State.{IsArmed, PlantState}
+use Rattle.ow_plant.specs.State.{IsArmed, PlantState, is_refused}
 use Rattle.phys_memory.specs.Memory.{MemoryParts, words_of}
 use Rattle.record_layouts.specs.declared.memory_map.MemoryMap.{MemoryMap}
 use Rattle.record_layouts.specs.Held.{Held, Records, beside}
@@ -40,11 +40,11 @@ blank m = record { boot = blank_words m.boot; a = blank_words m.a; b = blank_wor
 
 -- the plant but for its words, the refusal and the counts of stores
 abbrev pub rest_of : PlantState → PlantState
-rest_of s = record s { memory = blank s.memory; refused = false; stores = 0; all_stores = 0 }
+rest_of s = record s { memory = blank s.memory; refusal = None; stores = 0; all_stores = 0 }
 
 -- it is armed, and no refusal stands
 abbrev pub is_able : PlantState → Bool
-is_able s = s.armed && not s.refused
+is_able s = s.armed && not (is_refused s)
 
 -- a store may be refused: a panic is to come in the trap that was begun last
 abbrev pub may_refuse : PlantState → Bool

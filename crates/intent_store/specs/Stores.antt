@@ -17,3 +17,7 @@ with_first words frame count value = with_frame words frame (λ w. nat_lt w coun
 -- so many words of a frame were set before a refusal
 abbrev pub IsBegun : WordMap → (frame : ℕ) → (value : ℕ → ℕ) → WordMap → Type 0
 IsBegun old frame value new = (count : ℕ) × (count < 1024) × (new ≡ with_first old frame count value)
+
+-- where no store is made at the end none was made before, and the words are as they were
+abbrev pub KeepsUnstored : (made_before made : ℕ) → (old new : WordMap) → Type 0
+KeepsUnstored made_before made old new = made ≡ 0 → (made_before ≡ 0) × (new ≡ old)

@@ -1,10 +1,12 @@
 //! Records are set together.
-ghost use Rattle.std.specs.Prelude.{◌≡◌, ◌⊎◌, true, false, OnOk, OnErr};
+ghost use Rattle.std.specs.Prelude.{◌≡◌, ◌⊎◌, true, OnOk, OnErr};
 ghost use Rattle.record_layouts.specs.Held.{beside};
 ghost use Rattle.record_layouts.specs.Overlay.{HasArea, area_at, gate_of};
 ghost use Rattle.record_layouts.specs.Patch.{IsPatch};
 ghost use Rattle.record_layouts.specs.Reading.{is_readable_gate};
 ghost use Rattle.intent_store.specs.Blocks.{IsSeenAs, IsSeenSet};
+ghost use Rattle.ow_plant.specs.declared.refusal.Refusal.TheVariants.{Store};
+ghost use Rattle.intent_store.specs.Stores.{KeepsUnstored};
 
 use crate::copying::roll_forward;
 use crate::opening::open;
@@ -29,7 +31,8 @@ pub(crate) fn commit<W: WordStore>(store: &mut W, base: u32, patch: &Patch) -> R
     ensures beside { beside base (W.words store.new) ≡ beside base (W.words store.old) }
     ensures rest { W.rest store.new ≡ W.rest store.old }
     ensures stays { OnOk result (W.able store.new ≡ true) }
-    ensures cause { OnErr result (W.able store.new ≡ false) }
+    ensures cause { OnErr result (W.refusal store.new ≡ Some Store) }
+    ensures unstored { KeepsUnstored (W.made store.old) (W.made store.new) (W.words store.old) (W.words store.new) }
     ensures allowed { OnErr result (W.may_refuse (W.rest store.old) ≡ true) }
     ensures place { W.place store.new ≡ W.place store.old }
 {

@@ -1,9 +1,11 @@
 //! An open intent is carried out: what it makes of words is copied to their places, and it is closed.
-ghost use Rattle.std.specs.Prelude.{◌≡◌, ◌+◌, ◌-◌, ◌<◌, ◌≤◌, true, false, OnOk, OnErr};
+ghost use Rattle.std.specs.Prelude.{◌≡◌, ◌+◌, ◌-◌, ◌<◌, ◌≤◌, true, OnOk, OnErr};
 ghost use Rattle.record_layouts.specs.Held.{beside};
 ghost use Rattle.record_layouts.specs.Overlay.{EndsOpen, HasArea, area_at, gate_of, may_change, overlay, values_end};
 ghost use Rattle.record_layouts.specs.Reading.{is_readable_gate};
 ghost use Rattle.intent_store.specs.Blocks.{IsPartlyChanged, ReadsAs, partly_changed, rolled};
+ghost use Rattle.ow_plant.specs.declared.refusal.Refusal.TheVariants.{Store};
+ghost use Rattle.intent_store.specs.Stores.{KeepsUnstored};
 
 use crate::word_store::{FRAME, WordStore, store_area};
 use ow_base::{Panicked, WordSource};
@@ -20,7 +22,8 @@ pub(crate) fn roll_forward<W: WordStore>(store: &mut W, base: u32) -> Result<(),
     ensures beside { beside base (W.words store.new) ≡ beside base (W.words store.old) }
     ensures rest { W.rest store.new ≡ W.rest store.old }
     ensures stays { OnOk result (W.able store.new ≡ true) }
-    ensures cause { OnErr result (W.able store.new ≡ false) }
+    ensures cause { OnErr result (W.refusal store.new ≡ Some Store) }
+    ensures unstored { KeepsUnstored (W.made store.old) (W.made store.new) (W.words store.old) (W.words store.new) }
     ensures allowed { OnErr result (W.may_refuse (W.rest store.old) ≡ true) }
     ensures place { W.place store.new ≡ W.place store.old }
 {
@@ -44,7 +47,8 @@ fn copy_changes<W: WordStore>(store: &mut W, base: u32, end: u32) -> Result<(), 
     ensures beside { beside base (W.words store.new) ≡ beside base (W.words store.old) }
     ensures rest { W.rest store.new ≡ W.rest store.old }
     ensures stays { OnOk result (W.able store.new ≡ true) }
-    ensures cause { OnErr result (W.able store.new ≡ false) }
+    ensures cause { OnErr result (W.refusal store.new ≡ Some Store) }
+    ensures unstored { KeepsUnstored (W.made store.old) (W.made store.new) (W.words store.old) (W.words store.new) }
     ensures allowed { OnErr result (W.may_refuse (W.rest store.old) ≡ true) }
     ensures place { W.place store.new ≡ W.place store.old }
 {
@@ -70,7 +74,8 @@ fn copy_change<W: WordStore>(store: &mut W, base: u32, change: Change) -> Result
     ensures beside { beside base (W.words store.new) ≡ beside base (W.words store.old) }
     ensures rest { W.rest store.new ≡ W.rest store.old }
     ensures stays { OnOk result (W.able store.new ≡ true) }
-    ensures cause { OnErr result (W.able store.new ≡ false) }
+    ensures cause { OnErr result (W.refusal store.new ≡ Some Store) }
+    ensures unstored { KeepsUnstored (W.made store.old) (W.made store.new) (W.words store.old) (W.words store.new) }
     ensures allowed { OnErr result (W.may_refuse (W.rest store.old) ≡ true) }
     ensures place { W.place store.new ≡ W.place store.old }
 {

@@ -1,7 +1,8 @@
 //! Whole frames that are stored word by word.
-ghost use Rattle.std.specs.Prelude.{◌≡◌, ℕ, ◌<◌, true, false, is_some, OnOk, OnErr};
+ghost use Rattle.std.specs.Prelude.{◌≡◌, ℕ, ◌<◌, true, is_some, OnOk, OnErr};
 ghost use Rattle.ow_base.specs.Sv32.{word_or_zero};
-ghost use Rattle.intent_store.specs.Stores.{IsBegun, with_first};
+ghost use Rattle.intent_store.specs.Stores.{KeepsUnstored, IsBegun, with_first};
+ghost use Rattle.ow_plant.specs.declared.refusal.Refusal.TheVariants.{Store};
 
 use crate::word_store::{FRAME, WordStore};
 use ow_base::{Panicked, WordSource};
@@ -14,7 +15,8 @@ pub(crate) fn zero_frame<W: WordStore>(store: &mut W, frame: u32) -> Result<(), 
     ensures err { OnErr result (IsBegun (W.words store.old) frame (λ w. 0) (W.words store.new)) }
     ensures rest { W.rest store.new ≡ W.rest store.old }
     ensures stays { OnOk result (W.able store.new ≡ true) }
-    ensures cause { OnErr result (W.able store.new ≡ false) }
+    ensures cause { OnErr result (W.refusal store.new ≡ Some Store) }
+    ensures unstored { KeepsUnstored (W.made store.old) (W.made store.new) (W.words store.old) (W.words store.new) }
     ensures allowed { OnErr result (W.may_refuse (W.rest store.old) ≡ true) }
     ensures place { W.place store.new ≡ W.place store.old }
 {
@@ -32,7 +34,8 @@ pub(crate) fn copy_frame<W: WordStore>(store: &mut W, from: u32, to: u32) -> Res
     ensures err { OnErr result (IsBegun (W.words store.old) to (λ w. word_or_zero (W.words store.old from w)) (W.words store.new)) }
     ensures rest { W.rest store.new ≡ W.rest store.old }
     ensures stays { OnOk result (W.able store.new ≡ true) }
-    ensures cause { OnErr result (W.able store.new ≡ false) }
+    ensures cause { OnErr result (W.refusal store.new ≡ Some Store) }
+    ensures unstored { KeepsUnstored (W.made store.old) (W.made store.new) (W.words store.old) (W.words store.new) }
     ensures allowed { OnErr result (W.may_refuse (W.rest store.old) ≡ true) }
     ensures place { W.place store.new ≡ W.place store.old }
 {

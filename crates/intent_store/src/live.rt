@@ -1,6 +1,8 @@
 //! The kernel that runs, on its plant.
-ghost use Rattle.std.specs.Prelude.{◌≡◌, ◌<◌, true, false, length, IsTrue, IsErr, ◌↔◌, OnOk, OnErr};
-ghost use Rattle.ow_plant.specs.State.{now_of, refusal, refuses, tty_of, with_put};
+ghost use Rattle.std.specs.Prelude.{◌≡◌, ◌<◌, true, None, length, IsTrue, IsErr, ◌↔◌, OnOk, OnErr};
+ghost use Rattle.ow_plant.specs.State.{now_of, refuses, store_refused, tty_of, with_put};
+ghost use Rattle.ow_plant.specs.declared.refusal.Refusal.TheVariants.{Store};
+ghost use Rattle.phys_memory.specs.Memory.{words_of};
 ghost use Rattle.record_layouts.specs.Reading.{FitsMap};
 ghost use Rattle.intent_store.specs.Live.{map_of};
 
@@ -70,7 +72,9 @@ impl Live<'_> {
         requires room { length (tty_of self.old.plant.now tty).tape < (tty_of self.old.plant.now tty).room }
         ensures exact { IsTrue (refuses self.old.plant.now) ↔ IsErr result }
         ensures ok { OnOk result (self.new.plant.now ≡ with_put self.old.plant.now tty byte) }
-        ensures err { OnErr result (self.new.plant.now ≡ refusal self.old.plant.now) }
+        ensures err { OnErr result (self.new.plant.now ≡ store_refused self.old.plant.now) }
+        ensures cause { OnErr result (self.old.plant.now.refusal ≡ None → self.new.plant.now.refusal ≡ Some Store) }
+        ensures none_made { OnErr result (self.new.plant.now.stores ≡ 0 → words_of self.new.plant.now.memory ≡ words_of self.old.plant.now.memory) }
         ensures same_reference { self.new.plant.ghost_name ≡ self.old.plant.ghost_name }
     {
         self.plant.put(tty, byte)
@@ -100,8 +104,6 @@ impl Live<'_> {
 }
 
 impl WordSource for Live<'_> {
-    ghost use Rattle.phys_memory.specs.Memory.{words_of};
-
     ghost words = { λ l. words_of l.plant.now.memory };
 
     fn load(&self, frame: u32, word: u32) -> Option<u32> {
@@ -119,6 +121,10 @@ impl WordStore for Live<'_> {
 
     ghost able = { λ l. is_able l.plant.now };
 
+    ghost refusal = { λ l. l.plant.now.refusal };
+
+    ghost made = { λ l. l.plant.now.stores };
+
     ghost place = { λ l. l.plant.ghost_name };
 
     ghost may_refuse = { may_refuse };
@@ -129,7 +135,6 @@ impl WordStore for Live<'_> {
 }
 
 impl RecordView for Live<'_> {
-    ghost use Rattle.phys_memory.specs.Memory.{words_of};
     ghost use Rattle.record_layouts.specs.Values.{are_values};
     ghost use Rattle.intent_store.specs.Live.{map_of, records_held};
 
@@ -201,10 +206,9 @@ impl RecordView for Live<'_> {
 #[tactic(auto, unfolding(record_layouts::specs::Reading::records_of, record_layouts::specs::Reading::records_in))]
 impl Writer for Live<'_> {
     ghost use Rattle.std.specs.Prelude.{◌⊎◌, []};
-    ghost use Rattle.phys_memory.specs.Memory.{words_of};
     ghost use Rattle.record_layouts.specs.Held.{IsBeside, IsCommittable, IsDirect, IsDirectFrame, IsPartly, copied, patched, stored, zeroed};
     ghost use Rattle.record_layouts.specs.declared.intent.Gate.TheVariants.{Closed};
-    ghost use Rattle.ow_plant.specs.State.{PlantState};
+    ghost use Rattle.ow_plant.specs.State.{PlantState, is_refused};
     ghost use Rattle.intent_store.specs.Live.{IsStanding, gate_held, held_of, may_refuse, records_held, rest_of};
 
     ghost Rest = { PlantState };
@@ -213,7 +217,7 @@ impl Writer for Live<'_> {
 
     ghost disk = { λ l. [] };
 
-    ghost refused = { λ l. l.plant.now.refused };
+    ghost refused = { λ l. is_refused l.plant.now };
 
     ghost place = { λ l. l.plant.ghost_name };
 
@@ -230,15 +234,16 @@ impl Writer for Live<'_> {
     /// Sets the records of a patch, all of them or, at `Panicked`, all or none. An intent that is open before is carried
     /// out and closed first; after `Ok` none is open.
     fn commit(&mut self, patch: &Patch) -> Result<(), Panicked>
-        requires able { self.old.plant.now.refused ≡ false }
+        requires able { self.old.plant.now.refusal ≡ None }
         requires stands { IsStanding self.old.plant.now }
         requires patch { IsCommittable (records_held self.old.plant.now) patch.now.items.items }
         ensures ok { OnOk result (held_of self.new.plant.now ≡ patched patch.now.items.items (held_of self.old.plant.now)) }
         ensures shut { OnOk result (gate_held self.new.plant.now ≡ Closed) }
         ensures err { OnErr result ((held_of self.new.plant.now ≡ held_of self.old.plant.now)
             ⊎ (held_of self.new.plant.now ≡ patched patch.now.items.items (held_of self.old.plant.now))) }
-        ensures stays { OnOk result (self.new.plant.now.refused ≡ false) }
-        ensures cause { OnErr result (self.new.plant.now.refused ≡ true) }
+        ensures stays { OnOk result (self.new.plant.now.refusal ≡ None) }
+        ensures cause { OnErr result (self.new.plant.now.refusal ≡ Some Store) }
+        ensures none_made { OnErr result (self.new.plant.now.stores ≡ 0 → words_of self.new.plant.now.memory ≡ words_of self.old.plant.now.memory) }
         ensures allowed { OnErr result (may_refuse self.old.plant.now ≡ true) }
         ensures still_stands { IsStanding self.new.plant.now }
         ensures place { self.new.plant.ghost_name ≡ self.old.plant.ghost_name }
@@ -249,13 +254,14 @@ impl Writer for Live<'_> {
 
     /// Stores a word that is there and is neither of a record nor of the intent block.
     fn direct_word(&mut self, frame: u32, word: u32, value: u32) -> Result<(), Panicked>
-        requires able { self.old.plant.now.refused ≡ false }
+        requires able { self.old.plant.now.refusal ≡ None }
         requires stands { IsStanding self.old.plant.now }
         requires direct { IsDirect (records_held self.old.plant.now) (words_of self.old.plant.now.memory) frame word }
         ensures ok { OnOk result (held_of self.new.plant.now ≡ stored (held_of self.old.plant.now) frame word value) }
         ensures err { OnErr result (held_of self.new.plant.now ≡ held_of self.old.plant.now) }
-        ensures stays { OnOk result (self.new.plant.now.refused ≡ false) }
-        ensures cause { OnErr result (self.new.plant.now.refused ≡ true) }
+        ensures stays { OnOk result (self.new.plant.now.refusal ≡ None) }
+        ensures cause { OnErr result (self.new.plant.now.refusal ≡ Some Store) }
+        ensures none_made { OnErr result (self.new.plant.now.stores ≡ 0 → words_of self.new.plant.now.memory ≡ words_of self.old.plant.now.memory) }
         ensures allowed { OnErr result (may_refuse self.old.plant.now ≡ true) }
         ensures still_stands { IsStanding self.new.plant.now }
         ensures place { self.new.plant.ghost_name ≡ self.old.plant.ghost_name }
@@ -266,14 +272,15 @@ impl Writer for Live<'_> {
     /// Copies a frame beside the area over another of which no word is of a record or of the intent block. At
     /// `Panicked` the first words are copied, up to one.
     fn copy_frame(&mut self, from: u32, to: u32) -> Result<(), Panicked>
-        requires able { self.old.plant.now.refused ≡ false }
+        requires able { self.old.plant.now.refusal ≡ None }
         requires stands { IsStanding self.old.plant.now }
         requires from { IsBeside (records_held self.old.plant.now) (words_of self.old.plant.now.memory) from }
         requires to { IsDirectFrame (records_held self.old.plant.now) (words_of self.old.plant.now.memory) to }
         ensures ok { OnOk result (held_of self.new.plant.now ≡ copied (held_of self.old.plant.now) from to 1024) }
         ensures err { OnErr result (IsPartly (copied (held_of self.old.plant.now) from to) (held_of self.new.plant.now)) }
-        ensures stays { OnOk result (self.new.plant.now.refused ≡ false) }
-        ensures cause { OnErr result (self.new.plant.now.refused ≡ true) }
+        ensures stays { OnOk result (self.new.plant.now.refusal ≡ None) }
+        ensures cause { OnErr result (self.new.plant.now.refusal ≡ Some Store) }
+        ensures none_made { OnErr result (self.new.plant.now.stores ≡ 0 → words_of self.new.plant.now.memory ≡ words_of self.old.plant.now.memory) }
         ensures allowed { OnErr result (may_refuse self.old.plant.now ≡ true) }
         ensures still_stands { IsStanding self.new.plant.now }
         ensures place { self.new.plant.ghost_name ≡ self.old.plant.ghost_name }
@@ -284,13 +291,14 @@ impl Writer for Live<'_> {
     /// Makes all words of a frame 0, of which no word is of a record or of the intent block. At `Panicked` the first
     /// words are 0, up to one.
     fn zero_frame(&mut self, frame: u32) -> Result<(), Panicked>
-        requires able { self.old.plant.now.refused ≡ false }
+        requires able { self.old.plant.now.refusal ≡ None }
         requires stands { IsStanding self.old.plant.now }
         requires frame { IsDirectFrame (records_held self.old.plant.now) (words_of self.old.plant.now.memory) frame }
         ensures ok { OnOk result (held_of self.new.plant.now ≡ zeroed (held_of self.old.plant.now) frame 1024) }
         ensures err { OnErr result (IsPartly (zeroed (held_of self.old.plant.now) frame) (held_of self.new.plant.now)) }
-        ensures stays { OnOk result (self.new.plant.now.refused ≡ false) }
-        ensures cause { OnErr result (self.new.plant.now.refused ≡ true) }
+        ensures stays { OnOk result (self.new.plant.now.refusal ≡ None) }
+        ensures cause { OnErr result (self.new.plant.now.refusal ≡ Some Store) }
+        ensures none_made { OnErr result (self.new.plant.now.stores ≡ 0 → words_of self.new.plant.now.memory ≡ words_of self.old.plant.now.memory) }
         ensures allowed { OnErr result (may_refuse self.old.plant.now ≡ true) }
         ensures still_stands { IsStanding self.new.plant.now }
         ensures place { self.new.plant.ghost_name ≡ self.old.plant.ghost_name }

@@ -1,8 +1,10 @@
 //! An intent is spelled in the block of an area, and opened.
-ghost use Rattle.std.specs.Prelude.{◌≡◌, ◌<◌, ◌≤◌, true, false, length, OnOk, OnErr};
+ghost use Rattle.std.specs.Prelude.{◌≡◌, ◌<◌, ◌≤◌, true, length, OnOk, OnErr};
 ghost use Rattle.record_layouts.specs.Held.{beside};
 ghost use Rattle.record_layouts.specs.Overlay.{HasArea, area_at};
 ghost use Rattle.intent_store.specs.Blocks.{IsShutLike, opened, with_words_at};
+ghost use Rattle.ow_plant.specs.declared.refusal.Refusal.TheVariants.{Store};
+ghost use Rattle.intent_store.specs.Stores.{KeepsUnstored};
 
 use crate::word_store::{WordStore, store_area};
 use ow_base::{Panicked, seal};
@@ -21,7 +23,8 @@ pub(crate) fn open<W: WordStore>(store: &mut W, base: u32, payload: &[u32]) -> R
     ensures beside { beside base (W.words store.new) ≡ beside base (W.words store.old) }
     ensures rest { W.rest store.new ≡ W.rest store.old }
     ensures stays { OnOk result (W.able store.new ≡ true) }
-    ensures cause { OnErr result (W.able store.new ≡ false) }
+    ensures cause { OnErr result (W.refusal store.new ≡ Some Store) }
+    ensures unstored { KeepsUnstored (W.made store.old) (W.made store.new) (W.words store.old) (W.words store.new) }
     ensures allowed { OnErr result (W.may_refuse (W.rest store.old) ≡ true) }
     ensures place { W.place store.new ≡ W.place store.old }
 {
@@ -44,7 +47,8 @@ fn store_payload<W: WordStore>(store: &mut W, base: u32, payload: &[u32]) -> Res
     ensures beside { beside base (W.words store.new) ≡ beside base (W.words store.old) }
     ensures rest { W.rest store.new ≡ W.rest store.old }
     ensures stays { OnOk result (W.able store.new ≡ true) }
-    ensures cause { OnErr result (W.able store.new ≡ false) }
+    ensures cause { OnErr result (W.refusal store.new ≡ Some Store) }
+    ensures unstored { KeepsUnstored (W.made store.old) (W.made store.new) (W.words store.old) (W.words store.new) }
     ensures allowed { OnErr result (W.may_refuse (W.rest store.old) ≡ true) }
     ensures place { W.place store.new ≡ W.place store.old }
 {

@@ -1,5 +1,5 @@
 //! Commits that are refused at each of their stores, and what is read of memory then.
-ghost use Rattle.std.specs.Prelude.{◌≡◌, ◌<◌, true, false, IfSome, IfOk};
+ghost use Rattle.std.specs.Prelude.{◌≡◌, ◌<◌, true, None, IfSome, IfOk};
 ghost use Rattle.ow_plant.specs.State.{IsArmed};
 ghost use Rattle.record_layouts.specs.Held.{IsCommittable, Records};
 ghost use Rattle.record_layouts.specs.Head.{FitsHead};
@@ -230,10 +230,10 @@ fn are_read(plant: &Plant, patch: &Patch) -> bool {
 // Stores words of area A from this number on; whether no store was refused.
 fn set_words(plant: &mut Plant, first: u32, words: &[u32]) -> bool
     requires armed { IsArmed plant.old }
-    requires free { plant.old.refused ≡ false }
+    requires free { plant.old.refusal ≡ None }
     requires first { first < 12288 }
     ensures armed { IsArmed plant.new }
-    ensures free { result ≡ true → plant.new.refused ≡ false }
+    ensures free { result ≡ true → plant.new.refusal ≡ None }
 {
     for (place, word) in words.iter().enumerate() {
         let number = first + (place % 1024) as u32;
@@ -254,9 +254,9 @@ const EARLIER: [ExitRec; 2] = [
 // Opens an intent that sets the record of pid 5.
 fn open_earlier(plant: &mut Plant) -> bool
     requires armed { IsArmed plant.old }
-    requires free { plant.old.refused ≡ false }
+    requires free { plant.old.refusal ≡ None }
     ensures armed { IsArmed plant.new }
-    ensures free { result ≡ true → plant.new.refused ≡ false }
+    ensures free { result ≡ true → plant.new.refusal ≡ None }
 {
     let words = sealed::<4>(&[0x4558_4954, 2, 7]);
     let payload = [11, 16, 4, words[0], words[1], words[2], words[3]];
@@ -268,10 +268,10 @@ fn open_earlier(plant: &mut Plant) -> bool
 
 fn commit_on(plant: &mut Plant, patch: &Patch) -> bool
     requires armed { IsArmed plant.old }
-    requires free { plant.old.refused ≡ false }
+    requires free { plant.old.refusal ≡ None }
     requires patch { (r : Records) → IsCommittable r patch.now.items.items }
     ensures armed { IsArmed plant.new }
-    ensures free { result ≡ true → plant.new.refused ≡ false }
+    ensures free { result ≡ true → plant.new.refusal ≡ None }
 {
     let mut live = Live::new(plant);
     if live.head().is_none() {
@@ -283,7 +283,7 @@ fn commit_on(plant: &mut Plant, patch: &Patch) -> bool
 // A machine that refuses this store of trap 1, with a head and the record of pid 5.
 fn machine(alloc: Global, store: u32) -> Result<Plant, AllocError>
     ensures armed { IfOk result IsArmed }
-    ensures free { IfOk result (λ plant. plant.refused ≡ false) }
+    ensures free { IfOk result (λ plant. plant.refusal ≡ None) }
 {
     let mut plant = Plant::new(alloc);
     let point = Point {

@@ -1,8 +1,10 @@
 //! Memory whose words are stored one by one.
-ghost use Rattle.std.specs.Prelude.{◌≡◌, ◌*◌, ◌+◌, ◌/◌, ◌%◌, ◌<◌, true, false, OnOk, OnErr};
+ghost use Rattle.std.specs.Prelude.{◌≡◌, ℕ, ◌*◌, ◌+◌, ◌/◌, ◌%◌, ◌<◌, true, OnOk, OnErr};
 ghost use Rattle.ow_base.specs.Words.{updated};
 ghost use Rattle.record_layouts.specs.Held.{beside};
 ghost use Rattle.record_layouts.specs.Overlay.{HasArea, area_at};
+ghost use Rattle.ow_plant.specs.declared.refusal.Refusal.TheVariants.{Store};
+ghost use Rattle.intent_store.specs.Stores.{KeepsUnstored};
 
 use ow_base::{Panicked, WordSource};
 
@@ -12,10 +14,12 @@ pub(crate) const FRAME: u32 = 1024;
 /// Memory of which single words can be stored, each by a store that may be refused.
 ///
 /// Contracts see its words and a rest, which no store changes. While `able` holds a store may be made; a refused one takes
-/// it away. The rest tells by `may_refuse` whether a store may be refused at all.
+/// it away, and `refusal` tells it. The rest tells by `may_refuse` whether a store may be refused at all. `made` counts
+/// stores; where it is 0 none was made.
 pub(crate) trait WordStore: WordSource {
-    ghost use Rattle.std.specs.Prelude.{Bool, is_some};
+    ghost use Rattle.std.specs.Prelude.{Bool, Option, is_some};
     ghost use Rattle.std.specs.Borrow.{GName};
+    ghost use Rattle.ow_plant.specs.declared.refusal.Refusal.{Refusal};
     ghost use Rattle.intent_store.specs.Stores.{with_word_at};
 
     ghost Rest: { Type 0 };
@@ -23,6 +27,10 @@ pub(crate) trait WordStore: WordSource {
     ghost rest: { Self → Rest };
 
     ghost able: { Self → Bool };
+
+    ghost refusal: { Self → Option Refusal };
+
+    ghost made: { Self → ℕ };
 
     ghost place: { Self → GName };
 
@@ -37,7 +45,8 @@ pub(crate) trait WordStore: WordSource {
         ensures err { OnErr result (Self.words self.new ≡ Self.words self.old) }
         ensures rest { rest self.new ≡ rest self.old }
         ensures stays { OnOk result (able self.new ≡ true) }
-        ensures cause { OnErr result (able self.new ≡ false) }
+        ensures cause { OnErr result (refusal self.new ≡ Some Store) }
+        ensures unstored { KeepsUnstored (made self.old) (made self.new) (Self.words self.old) (Self.words self.new) }
         ensures allowed { OnErr result (may_refuse (rest self.old) ≡ true) }
         ensures place { place self.new ≡ place self.old };
 }
@@ -58,7 +67,8 @@ pub(crate) fn store_area<W: WordStore>(
     ensures beside { beside base (W.words store.new) ≡ beside base (W.words store.old) }
     ensures rest { W.rest store.new ≡ W.rest store.old }
     ensures stays { OnOk result (W.able store.new ≡ true) }
-    ensures cause { OnErr result (W.able store.new ≡ false) }
+    ensures cause { OnErr result (W.refusal store.new ≡ Some Store) }
+    ensures unstored { KeepsUnstored (W.made store.old) (W.made store.new) (W.words store.old) (W.words store.new) }
     ensures allowed { OnErr result (W.may_refuse (W.rest store.old) ≡ true) }
     ensures place { W.place store.new ≡ W.place store.old }
 {

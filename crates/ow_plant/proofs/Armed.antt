@@ -5,7 +5,6 @@ use Rattle.ow_base.specs.UserStep.{Stepped, Next, Call, Faulted, user_step}
 use Rattle.ow_base.specs.declared.machine.Access.TheVariants.{Store}
 use Rattle.ow_base.specs.declared.machine.Bank.{Bank}
 use Rattle.ow_base.specs.declared.machine.Came.{Came}
-use Rattle.ow_base.specs.declared.machine.Came.TheVariants as came
 use Rattle.ow_base.specs.declared.machine.PageCause.{PageCause}
 use Rattle.ow_base.specs.declared.machine.Phys.{Phys}
 use Rattle.ow_base.specs.declared.machine.Shape.{Shape}
@@ -13,7 +12,7 @@ use Rattle.ow_base.specs.declared.machine.Width.{Width}
 use Rattle.ow_base.proofs.Simulations.{FollowsStore, Follows, Alike, follows}
 use Rattle.phys_memory.specs.Memory.{IsSized, words_of, with_word}
 use Rattle.phys_memory.proofs.Words.{IsSized-set, IsSized-zeroed}
-use Rattle.ow_plant.specs.State.{PlantState, Seen, seen_space, seen_by, IsReady, IsArmed, StepsAs, TakesUserTurn, refusal, with_stored, with_put, entered, left_trap, returned_to}
+use Rattle.ow_plant.specs.State.{PlantState, Seen, seen_space, seen_by, IsReady, IsArmed, StepsAs, TakesUserTurn, store_refused, leave_refused, with_stored, with_put, entered, left_trap, returned_to}
 use Rattle.ow_plant.specs.declared.UserEnd.{UserEnd}
 use Rattle.ow_plant.specs.declared.UserEnd.TheVariants as end
 
@@ -24,8 +23,11 @@ IsArmed-ready shape s few ready = record {
   few_frames = rw ready.of_shape few;
 }
 
-pub IsArmed-refusal : (s : PlantState) → IsArmed s → IsArmed (refusal s)
-IsArmed-refusal s is = record { armed = is.armed; sized = is.sized; few_frames = is.few_frames }
+pub IsArmed-store_refused : (s : PlantState) → IsArmed s → IsArmed (store_refused s)
+IsArmed-store_refused s is = record { armed = is.armed; sized = is.sized; few_frames = is.few_frames }
+
+pub IsArmed-leave_refused : (s : PlantState) → IsArmed s → IsArmed (leave_refused s)
+IsArmed-leave_refused s is = record { armed = is.armed; sized = is.sized; few_frames = is.few_frames }
 
 pub IsArmed-stored : (s : PlantState) (frame word value : ℕ) → IsArmed s → IsArmed (with_stored s frame word value)
 IsArmed-stored s frame word value is = record {
@@ -44,11 +46,8 @@ IsArmed-put s tty byte is =
     (record { armed = is.armed; sized = is.sized; few_frames = is.few_frames })
     (record { armed = is.armed; sized = is.sized; few_frames = is.few_frames })
 
-pub IsArmed-entered : (s : PlantState) (c : Came) → IsArmed s → IsArmed (entered s c)
-IsArmed-entered s came.Closing is = record { armed = is.armed; sized = is.sized; few_frames = is.few_frames }
-IsArmed-entered s came.Kernel is = record { armed = is.armed; sized = is.sized; few_frames = is.few_frames }
-IsArmed-entered s came.User is = record { armed = is.armed; sized = is.sized; few_frames = is.few_frames }
-IsArmed-entered s came.Call is = record { armed = is.armed; sized = is.sized; few_frames = is.few_frames }
+pub IsArmed-entered : (s : PlantState) (how : Came) (pid : ℕ) → IsArmed s → IsArmed (entered s how pid)
+IsArmed-entered s how pid is = record { armed = is.armed; sized = is.sized; few_frames = is.few_frames }
 
 pub IsArmed-left_trap : (s : PlantState) → IsArmed s → IsArmed (left_trap s)
 IsArmed-left_trap s is = record { armed = is.armed; sized = is.sized; few_frames = is.few_frames }

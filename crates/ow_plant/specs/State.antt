@@ -1,5 +1,5 @@
 -- What contracts see of the plant.
-use Rattle.std.specs.Prelude.{◌≡◌, ℕ, ◌+◌, ◌-◌, ◌*◌, ◌^◌, ◌≤◌, min, Bool, true, false, MatchBool, nat_lt, ◌==◌, ◌||◌, if◌then◌else◌, List, [], ◌∷◌, ◌++◌}
+use Rattle.std.specs.Prelude.{◌≡◌, ℕ, ◌+◌, ◌-◌, ◌*◌, ◌^◌, ◌≤◌, min, Bool, true, false, MatchBool, nat_lt, ◌==◌, ◌||◌, if◌then◌else◌, List, [], ◌∷◌, ◌++◌, Option, Some, None, is_some}
 use Rattle.std.specs.List.{list_any}
 use Rattle.ow_base.specs.Screen.{Screen, blank_screen, drawn}
 use Rattle.ow_base.specs.Sv32.{sv32_space}
@@ -18,6 +18,8 @@ use Rattle.ow_plant.specs.Points.{is_in, is_past}
 use Rattle.ow_plant.specs.declared.points.PanicPoint.{PanicPoint}
 use Rattle.ow_plant.specs.declared.UserEnd.{UserEnd}
 use Rattle.ow_plant.specs.declared.UserEnd.TheVariants as end
+use Rattle.ow_plant.specs.declared.refusal.Refusal.{Refusal}
+use Rattle.ow_plant.specs.declared.refusal.Refusal.TheVariants as refusal
 
 -- a terminal: the bytes written, how many there is room for, and what its display shows
 pub record Terminal : Type 0 where
@@ -55,10 +57,14 @@ pub record PlantState : Type 0 where
   -- stores made in the trap that was begun last, or at boot, and in all
   pub stores : ℕ
   pub all_stores : ℕ
-  -- a refusal stands: no store is made
-  pub refused : Bool
+  -- what was refused since the last panic entry: nothing, a store, or the end of a trap. Where it is not nothing no store
+  -- is made
+  pub refusal : Option Refusal
   -- a trap was begun and has not been left
   pub in_trap : Bool
+  -- how the trap that was begun last came, and the process that it is of, 0 for none; before the first trap Kernel and 0
+  pub came : Came
+  pub trap_pid : ℕ
   -- the area of the kernel that runs
   pub live : AreaId
   pub history : List PanicRecord
@@ -87,8 +93,10 @@ pub record IsReady (shape : Shape) (s : PlantState) : Type 0 where
   pub no_traps : s.traps ≡ 0
   pub no_stores : s.stores ≡ 0
   pub none_in_all : s.all_stores ≡ 0
-  pub not_refused : s.refused ≡ false
+  pub no_refusal : s.refusal ≡ None
   pub no_trap_runs : s.in_trap ≡ false
+  pub of_kernel : s.came ≡ came.Kernel
+  pub of_no_process : s.trap_pid ≡ 0
   pub of_area : s.live ≡ area.A
   pub no_history : s.history ≡ []
 
@@ -98,22 +106,39 @@ pub record IsArmed (s : PlantState) : Type 0 where
   pub sized : IsSized s.shape.user_frames s.memory
   pub few_frames : s.shape.user_frames ≤ 384
 
--- what holds of every plant: it has no frame before it is armed, and never more than 384 for pages in a half
-pub record HasFramesArmed (armed : Bool) (shape : Shape) (memory : MemoryParts) : Type 0 where
+-- what holds of every plant: it has no frame before it is armed, and never more than 384 for pages in a half; its budget
+-- is at most 2000000, and each terminal has room for 16 bytes a step of it
+pub record FitsShape (armed : Bool) (shape : Shape) (memory : MemoryParts) (tty0 tty1 : Terminal) : Type 0 where
   pub none_before : armed ≡ false → frame_count memory ≡ 0
   pub few_frames : shape.user_frames ≤ 384
+  pub few_steps : shape.budget ≤ 2000000
+  pub room0 : tty0.room ≡ 16 * shape.budget
+  pub room1 : tty1.room ≡ 16 * shape.budget
+
+-- a refusal stands
+abbrev pub is_refused : PlantState → Bool
+is_refused s = is_some s.refusal
 
 -- a store is refused where a refusal stands, or a point of this trap has come
 abbrev pub refuses : PlantState → Bool
-refuses s = s.refused || list_any (is_past s.traps s.stores) s.points
+refuses s = is_refused s || list_any (is_past s.traps s.stores) s.points
 
 -- the end of a trap is refused where a refusal stands, or a point of this trap has not come before
 abbrev pub refuses_leave : PlantState → Bool
-refuses_leave s = s.refused || list_any (is_in s.traps) s.points
+refuses_leave s = is_refused s || list_any (is_in s.traps) s.points
 
--- a refusal stands from now on, and nothing else changes
-abbrev pub refusal : PlantState → PlantState
-refusal s = record s { refused = true }
+-- the refusal that stands, and else this one
+abbrev pub first_refusal : Option Refusal → Refusal → Option Refusal
+first_refusal (Some stands) one = Some stands
+first_refusal None one = Some one
+
+-- a store is refused: that a refusal stands is all that changes
+abbrev pub store_refused : PlantState → PlantState
+store_refused s = record s { refusal = first_refusal s.refusal refusal.Store }
+
+-- the end of a trap is refused
+abbrev pub leave_refused : PlantState → PlantState
+leave_refused s = record s { refusal = first_refusal s.refusal refusal.Leave }
 
 -- a store is counted
 abbrev pub counted : PlantState → PlantState
@@ -141,12 +166,16 @@ put_on t byte = record t { tape = t.tape ++ byte ∷ []; display = drawn t.displ
 abbrev pub with_put : PlantState → (tty byte : ℕ) → PlantState
 with_put s tty byte = if tty == 0 then record (counted s) { tty0 = put_on s.tty0 byte } else record (counted s) { tty1 = put_on s.tty1 byte }
 
--- a trap begins, with no store made in it: it is counted, with a step unless it is the closing one
-abbrev pub entered : PlantState → Came → PlantState
-entered s came.Closing = record s { in_user = false; in_trap = true; traps = risen s.traps; stores = 0 }
-entered s came.Kernel = record s { in_user = false; in_trap = true; traps = risen s.traps; stores = 0; steps = risen s.steps }
-entered s came.User = record s { in_user = false; in_trap = true; traps = risen s.traps; stores = 0; steps = risen s.steps }
-entered s came.Call = record s { in_user = false; in_trap = true; traps = risen s.traps; stores = 0; steps = risen s.steps }
+-- the steps after a trap came: it is one, unless it is the closing one
+abbrev pub stepped_in : Came → (steps : ℕ) → ℕ
+stepped_in came.Closing steps = steps
+stepped_in came.Kernel steps = risen steps
+stepped_in came.User steps = risen steps
+stepped_in came.Call steps = risen steps
+
+-- a trap of a process, 0 for none, begins, with no store made in it: it is counted
+abbrev pub entered : PlantState → Came → (pid : ℕ) → PlantState
+entered s how pid = record s { in_user = false; in_trap = true; came = how; trap_pid = pid; traps = risen s.traps; stores = 0; steps = stepped_in how s.steps }
 
 -- the kernel's work for a trap ends
 abbrev pub left_trap : PlantState → PlantState

@@ -6,6 +6,7 @@
 mod displays;
 mod machine;
 mod points;
+mod refusal;
 mod terminals;
 mod user_memory;
 
@@ -14,6 +15,7 @@ pub use machine::Plant;
 pub use ow_base::{
     AreaId, Bank, Came, Fault, KeyByte, Now, PanicRecord, Panicked, Point, Regs, Shape,
 };
+pub use refusal::Refusal;
 
 /// How a turn in user mode ends: an instruction was made, the slice is over, or the instruction is a
 /// call or has faulted.

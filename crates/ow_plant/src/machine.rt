@@ -2,11 +2,12 @@
 ghost use Rattle.std.specs.Prelude.{◌≡◌, ℕ, ◌+◌, ◌*◌, ◌^◌, ◌<◌, ◌≤◌, ◌↔◌, true, false, [], None, length, is_some, IsTrue, IsErr, IsNone, IfSome, OnOk, OnErr};
 ghost use Rattle.phys_memory.specs.Memory.{frame_count, words_of};
 ghost use Rattle.ow_plant.specs.Points.{ArePoints, points_of};
-ghost use Rattle.ow_plant.specs.State.{IsReady, TakesUserTurn, returned_to, entered, left_trap, refuses, refuses_leave, refusal, counted, with_put, with_stored, tty_of, now_of};
+ghost use Rattle.ow_plant.specs.State.{IsReady, TakesUserTurn, returned_to, entered, left_trap, refuses, refuses_leave, first_refusal, store_refused, leave_refused, counted, with_put, with_stored, tty_of, now_of};
 
 use crate::UserEnd;
 use crate::displays::Display;
 use crate::points::PanicPoints;
+use crate::refusal::Refusal;
 use crate::terminals::Tty;
 use crate::user_memory::UserMemory;
 use ow_base::{
@@ -60,14 +61,16 @@ pub struct Plant {
     tty1: Tty,
     counts: Counts,
     points: PanicPoints,
-    refused: bool,
+    refusal: Option<Refusal>,
     in_trap: bool,
+    came: Came,
+    trap_pid: u32,
     live: AreaId,
     history: Vec<PanicRecord>,
 }
 
 impl Model for Plant {
-    ghost use Rattle.ow_plant.specs.State.{PlantState, HasFramesArmed};
+    ghost use Rattle.ow_plant.specs.State.{PlantState, FitsShape};
 
     ghost Value = { PlantState };
 
@@ -87,13 +90,15 @@ impl Model for Plant {
       points = p.points;
       stores = p.counts.stores;
       all_stores = p.counts.all_stores;
-      refused = p.refused;
+      refusal = p.refusal;
       in_trap = p.in_trap;
+      came = p.came;
+      trap_pid = p.trap_pid;
       live = p.live;
       history = p.history.items;
     } };
 
-    ghost invariant = { λ p. HasFramesArmed p.armed p.shape p.seen.memory };
+    ghost invariant = { λ p. FitsShape p.armed p.shape p.seen.memory p.tty0 p.tty1 };
 }
 
 impl Plant {
@@ -129,8 +134,10 @@ impl Plant {
             tty1: Tty::new(alloc),
             counts: NOTHING_DONE,
             points: PanicPoints::none(alloc),
-            refused: false,
+            refusal: None,
             in_trap: false,
+            came: Came::Kernel,
+            trap_pid: 0,
             live: AreaId::A,
             history: Vec::new(alloc),
         }
@@ -172,8 +179,10 @@ impl Plant {
         self.tty1 = tty1;
         self.counts = NOTHING_DONE;
         self.points = points;
-        self.refused = false;
+        self.refusal = None;
         self.in_trap = false;
+        self.came = Came::Kernel;
+        self.trap_pid = 0;
         self.live = AreaId::A;
         self.history = Vec::new(alloc);
         Ok(())
@@ -201,7 +210,7 @@ impl Plant {
         requires frame { frame < frame_count self.old.memory }
         ensures exact { IsTrue (refuses self.old) ↔ IsErr result }
         ensures ok { OnOk result (self.new ≡ with_stored self.old frame word value) }
-        ensures err { OnErr result (self.new ≡ refusal self.old) }
+        ensures err { OnErr result (self.new ≡ store_refused self.old) }
     {
         self.count_store()?;
         self.seen.memory.store(frame, word, value);
@@ -212,22 +221,25 @@ impl Plant {
     fn count_store(&mut self) -> Result<(), Panicked>
         ensures exact { IsTrue (refuses self.old) ↔ IsErr result }
         ensures ok { OnOk result (self.new ≡ counted self.old) }
-        ensures err { OnErr result (self.new ≡ refusal self.old) }
+        ensures err { OnErr result (self.new ≡ store_refused self.old) }
     {
-        if self.refused || self.points.is_past(self.counts.traps, self.counts.stores) {
-            return self.refuse();
+        if self.refusal.is_some() || self.points.is_past(self.counts.traps, self.counts.stores) {
+            return self.refuse(Refusal::Store);
         }
         self.counts.stores = self.counts.stores.saturating_add(1);
         self.counts.all_stores = self.counts.all_stores.saturating_add(1);
         Ok(())
     }
 
-    /// Refuses what was asked for, and every store from now on.
-    fn refuse(&mut self) -> Result<(), Panicked>
+    /// Refuses what was asked for, and every store from now on. A refusal that stands stays.
+    fn refuse(&mut self, one: Refusal) -> Result<(), Panicked>
         ensures refuses { IsErr result }
-        ensures stands { self.new ≡ refusal self.old }
+        ensures stands { self.new ≡ record self.old { refusal = first_refusal self.old.refusal one } }
     {
-        self.refused = true;
+        self.refusal = match self.refusal {
+            Some(stands) => Some(stands),
+            None => Some(one),
+        };
         Err(Panicked)
     }
 
@@ -337,11 +349,14 @@ impl Plant {
     }
 
     /// What holds of every plant: one that has a frame is armed, and none has more than 384 frames for pages in a
-    /// half. The call does nothing; contracts above cite it.
+    /// half; its budget is at most 2,000,000 steps, and each terminal has room for 16 bytes a step of it. The call does
+    /// nothing; contracts above cite it.
     #[tactic(auto, unfolding(phys_memory::specs::Memory::words_of))]
-    pub fn has_frames_armed(&self)
+    pub fn fits_shape(&self)
         ensures armed { (frame : ℕ) → (word : ℕ) → is_some (words_of self.now.memory frame word) ≡ true → self.now.armed ≡ true }
         ensures few_frames { self.now.shape.user_frames ≤ 384 }
+        ensures few_steps { self.now.shape.budget ≤ 2000000 }
+        ensures room { (tty : ℕ) → tty < 2 → (tty_of self.now tty).room ≡ 16 * self.now.shape.budget }
     {
         let _ = &self.armed;
     }
@@ -368,13 +383,16 @@ impl Plant {
         }
     }
 
-    /// Begins the next trap, in which no store is made yet. It counts a step unless it is the closing one.
+    /// Begins the next trap, in which no store is made yet, of a process, or of none, which is 0. It counts a step unless
+    /// it is the closing one.
     pub fn enter(&mut self, came: Came, pid: u32)
         requires armed { self.old.armed ≡ true }
-        ensures { self.new ≡ entered self.old came }
+        ensures { self.new ≡ entered self.old came pid }
     {
         self.in_user = false;
         self.in_trap = true;
+        self.came = came;
+        self.trap_pid = pid;
         self.counts.traps = self.counts.traps.saturating_add(1);
         self.counts.stores = 0;
         match came {
@@ -392,10 +410,10 @@ impl Plant {
         requires armed { self.old.armed ≡ true }
         ensures exact { IsTrue (refuses_leave self.old) ↔ IsErr result }
         ensures ok { OnOk result (self.new ≡ left_trap self.old) }
-        ensures err { OnErr result (self.new ≡ refusal self.old) }
+        ensures err { OnErr result (self.new ≡ leave_refused self.old) }
     {
-        if self.refused || self.points.has(self.counts.traps) {
-            self.refuse()
+        if self.refusal.is_some() || self.points.has(self.counts.traps) {
+            self.refuse(Refusal::Leave)
         } else {
             self.in_trap = false;
             Ok(())
@@ -410,7 +428,7 @@ impl Plant {
         requires room { length (tty_of self.old tty).tape < (tty_of self.old tty).room }
         ensures exact { IsTrue (refuses self.old) ↔ IsErr result }
         ensures ok { OnOk result (self.new ≡ with_put self.old tty byte) }
-        ensures err { OnErr result (self.new ≡ refusal self.old) }
+        ensures err { OnErr result (self.new ≡ store_refused self.old) }
     {
         self.count_store()?;
         if tty == 0 {

@@ -6,23 +6,21 @@ use crate::displays::Display;
 use std::alloc::{AllocError, Global};
 use std::marker::Model;
 
-/// A terminal whose tape has room for a number of bytes that is fixed when it is made.
+/// A terminal whose tape has room for a number of bytes that is fixed when it is made. Memory for them is taken then,
+/// and none of it is written before its byte comes.
 #[derive(Drop)]
 pub(crate) struct Tty {
     bytes: Vec<u8>,
-    count: usize,
     display: Display,
 }
 
 impl Model for Tty {
-    ghost use Rattle.std.specs.Prelude.{◌≤◌, length, take};
+    ghost use Rattle.std.specs.Vec.{vec_capacity};
     ghost use Rattle.ow_plant.specs.State.{Terminal};
 
     ghost Value = { Terminal };
 
-    ghost view = { λ t. record { tape = take t.count t.bytes.items; room = length t.bytes.items; display = t.display } };
-
-    ghost invariant = { λ t. t.count ≤ length t.bytes.items };
+    ghost view = { λ t. record { tape = t.bytes.items; room = vec_capacity t.bytes; display = t.display } };
 }
 
 impl Tty {
@@ -32,7 +30,6 @@ impl Tty {
     {
         Tty {
             bytes: Vec::new(alloc),
-            count: 0,
             display: Display::new(),
         }
     }
@@ -41,10 +38,9 @@ impl Tty {
     pub(crate) fn with_room(alloc: Global, room: usize) -> Result<Tty, AllocError>
         ensures { IfOk result (λ t. t ≡ silent_terminal room) }
     {
-        let bytes = vec![in alloc; 0; room]?;
+        let bytes = Vec::with_capacity(alloc, room)?;
         Ok(Tty {
             bytes,
-            count: 0,
             display: Display::new(),
         })
     }
@@ -54,8 +50,7 @@ impl Tty {
         requires { length self.old.tape < self.old.room }
         ensures { self.new ≡ put_on self.old byte }
     {
-        self.bytes[self.count] = byte;
-        self.count += 1;
+        self.bytes.push_reserved(byte);
         self.display.draw(byte);
     }
 
@@ -63,7 +58,7 @@ impl Tty {
     pub(crate) fn tape(&self) -> &[u8]
         ensures { result.now ≡ self.now.tape }
     {
-        &self.bytes[..self.count]
+        self.bytes.as_slice()
     }
 
     /// What is seen.

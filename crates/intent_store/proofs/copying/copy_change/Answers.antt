@@ -2,6 +2,7 @@ use Rattle.std.proofs.Common.{◌+◌, ◌-◌, ◌<◌, ◌≤◌, ◌∙◌, a
 use Rattle.ow_base.specs.Words.{updated}
 use Rattle.record_layouts.specs.Overlay.{Area, area_at}
 use Rattle.intent_store.proofs.Changes.{partly-none, partly-more}
+use Rattle.intent_store.proofs.Words.{unstored_same, unstored_then}
 use Rattle.intent_store.proofs.copying.copy_change.Goals as goal
 
 pub loop-number-init : goal.loop-number-init
@@ -11,6 +12,7 @@ loop-number-init g c = record {
   same_beside = refl;
   same_rest = refl;
   able = c.requires.able;
+  unstored = unstored_same _ _;
   same_place = refl;
 }
 
@@ -28,5 +30,6 @@ loop-number-preserved g c =
       same_beside = c.store_area.ensures.beside ∙ c.loop-number.invariant.same_beside;
       same_rest = c.store_area.ensures.rest ∙ c.loop-number.invariant.same_rest;
       able = c.in_ok-store_area.ensures.stays;
+      unstored = unstored_then _ _ _ _ _ _ c.loop-number.invariant.unstored c.store_area.ensures.unstored;
       same_place = c.store_area.ensures.place ∙ c.loop-number.invariant.same_place;
     }

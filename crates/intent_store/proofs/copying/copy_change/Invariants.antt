@@ -2,6 +2,7 @@ use Rattle.std.proofs.Common.{◌≡◌, ◌-◌, true}
 use Rattle.record_layouts.specs.Held.{beside}
 use Rattle.record_layouts.specs.Overlay.{HasArea, area_at}
 use Rattle.intent_store.specs.Blocks.{partly_changed}
+use Rattle.intent_store.specs.Stores.{KeepsUnstored}
 use Rattle.intent_store.proofs.copying.copy_change.Given as goal
 
 -- the words before this one are in their places
@@ -14,5 +15,6 @@ invariant-loop-number g l =
       same_beside : beside l.base (words l.store) ≡ beside l.base (words l.fn.store);
       same_rest : g.W.WordStore.rest l.store ≡ g.W.WordStore.rest l.fn.store;
       able : g.W.WordStore.able l.store ≡ true;
+      unstored : KeepsUnstored (g.W.WordStore.made l.fn.store) (g.W.WordStore.made l.store) (words l.fn.store) (words l.store);
       same_place : g.W.WordStore.place l.store ≡ g.W.WordStore.place l.fn.store;
     }

@@ -1,5 +1,6 @@
 use Rattle.std.proofs.Common.{◌∙◌, refl}
 use Rattle.intent_store.proofs.Changes.{copying-first, copying-over, copying-next, partly-reads}
+use Rattle.intent_store.proofs.Words.{unstored_same, unstored_then}
 use Rattle.intent_store.proofs.copying.copy_changes.Goals as goal
 
 pub loop-change-init : goal.loop-change-init
@@ -9,6 +10,7 @@ loop-change-init g c = record {
   same_beside = refl;
   same_rest = refl;
   able = c.requires.able;
+  unstored = unstored_same _ _;
   same_place = refl;
 }
 
@@ -25,6 +27,7 @@ loop-change-preserved g c =
       same_beside = c.copy_change.ensures.beside ∙ c.loop-change.invariant.same_beside;
       same_rest = c.copy_change.ensures.rest ∙ c.loop-change.invariant.same_rest;
       able = c.in_ok-copy_change.ensures.stays;
+      unstored = unstored_then _ _ _ _ _ _ c.loop-change.invariant.unstored c.copy_change.ensures.unstored;
       same_place = c.copy_change.ensures.place ∙ c.loop-change.invariant.same_place;
     }
 

@@ -2,6 +2,7 @@ use Rattle.std.proofs.Common.{◌≡◌, ◌-◌, true}
 use Rattle.record_layouts.specs.Held.{beside}
 use Rattle.record_layouts.specs.Overlay.{HasArea, area_at}
 use Rattle.intent_store.proofs.Changes.{IsCopying}
+use Rattle.intent_store.specs.Stores.{KeepsUnstored}
 use Rattle.intent_store.proofs.copying.copy_changes.Given as goal
 
 -- the ranges of the payload before this place are in their places
@@ -14,6 +15,7 @@ invariant-loop-change g l =
       same_beside : beside l.base (words l.store) ≡ beside l.base (words l.fn.store);
       same_rest : g.W.WordStore.rest l.store ≡ g.W.WordStore.rest l.fn.store;
       able : g.W.WordStore.able l.store ≡ true;
+      unstored : KeepsUnstored (g.W.WordStore.made l.fn.store) (g.W.WordStore.made l.store) (words l.fn.store) (words l.store);
       same_place : g.W.WordStore.place l.store ≡ g.W.WordStore.place l.fn.store;
     }
 

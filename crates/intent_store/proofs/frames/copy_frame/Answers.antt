@@ -1,7 +1,7 @@
 use Rattle.std.proofs.Common.{◌<◌, ◌≡◌, ◌∙◌, ℕ, ap, refl, arith, is_some, true, sym, subst}
 use Rattle.ow_base.specs.Sv32.{WordMap, word_or_zero}
 use Rattle.intent_store.specs.Stores.{with_word_at}
-use Rattle.intent_store.proofs.Words.{first-none, first-more, first-later, first-there}
+use Rattle.intent_store.proofs.Words.{unstored_same, unstored_then, first-none, first-more, first-later, first-there}
 use Rattle.intent_store.proofs.frames.copy_frame.Goals as goal
 
 pub loop-place-init : goal.loop-place-init
@@ -9,6 +9,7 @@ loop-place-init g c = record {
   stored = first-none _ c.args.to (λ (w : ℕ). word_or_zero (g.W.WordSource.words c.args.store.now c.args.from w));
   same_rest = refl;
   able = c.requires.able;
+  unstored = unstored_same _ _;
   same_place = refl;
 }
 
@@ -31,5 +32,6 @@ loop-place-preserved g c =
           ∙ first-more old c.args.to (λ (w : ℕ). word_or_zero (old c.args.from w)) c.loop-place.place c.word_at-value.result fits value;
       same_rest = c.store.ensures.rest ∙ c.loop-place.invariant.same_rest;
       able = c.in_ok-store.ensures.stays;
+      unstored = unstored_then _ _ _ _ _ _ c.loop-place.invariant.unstored c.store.ensures.unstored;
       same_place = c.store.ensures.place ∙ c.loop-place.invariant.same_place;
     }

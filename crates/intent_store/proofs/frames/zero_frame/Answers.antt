@@ -1,7 +1,7 @@
 use Rattle.std.proofs.Common.{◌<◌, ◌≡◌, ◌∙◌, ap, refl, arith, is_some, true, sym, subst}
 use Rattle.ow_base.specs.Sv32.{WordMap}
 use Rattle.intent_store.specs.Stores.{with_word_at}
-use Rattle.intent_store.proofs.Words.{first-none, first-more, first-there}
+use Rattle.intent_store.proofs.Words.{unstored_same, unstored_then, first-none, first-more, first-there}
 use Rattle.intent_store.proofs.frames.zero_frame.Goals as goal
 
 pub loop-word-init : goal.loop-word-init
@@ -9,6 +9,7 @@ loop-word-init g c = record {
   stored = first-none _ c.args.frame (λ w. 0);
   same_rest = refl;
   able = c.requires.able;
+  unstored = unstored_same _ _;
   same_place = refl;
 }
 
@@ -28,5 +29,6 @@ loop-word-preserved g c =
           ∙ first-more old c.args.frame (λ w. 0) c.loop-word.word 0 fits refl;
       same_rest = c.store.ensures.rest ∙ c.loop-word.invariant.same_rest;
       able = c.in_ok-store.ensures.stays;
+      unstored = unstored_then _ _ _ _ _ _ c.loop-word.invariant.unstored c.store.ensures.unstored;
       same_place = c.store.ensures.place ∙ c.loop-word.invariant.same_place;
     }

@@ -1,5 +1,5 @@
 use Rattle.std.proofs.Common.{◌≡◌, true}
-use Rattle.intent_store.specs.Stores.{with_first}
+use Rattle.intent_store.specs.Stores.{KeepsUnstored, with_first}
 use Rattle.intent_store.proofs.frames.zero_frame.Given as goal
 
 -- the words before this one are 0
@@ -10,5 +10,6 @@ invariant-loop-word g l =
       stored : words l.store ≡ with_first (words l.fn.store) l.frame l.word (λ w. 0);
       same_rest : g.W.WordStore.rest l.store ≡ g.W.WordStore.rest l.fn.store;
       able : g.W.WordStore.able l.store ≡ true;
+      unstored : KeepsUnstored (g.W.WordStore.made l.fn.store) (g.W.WordStore.made l.store) (words l.fn.store) (words l.store);
       same_place : g.W.WordStore.place l.store ≡ g.W.WordStore.place l.fn.store;
     }

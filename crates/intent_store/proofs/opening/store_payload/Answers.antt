@@ -3,6 +3,7 @@ use Rattle.ow_base.specs.Words.{updated}
 use Rattle.record_layouts.specs.Overlay.{Area, area_at}
 use Rattle.intent_store.specs.Blocks.{IsShutLike}
 use Rattle.intent_store.proofs.Openings.{with_words_at-none, with_words_at-more, shut-first, shut-more}
+use Rattle.intent_store.proofs.Words.{unstored_same, unstored_then}
 use Rattle.intent_store.proofs.opening.store_payload.Goals as goal
 
 pub loop-index-init : goal.loop-index-init
@@ -13,6 +14,7 @@ loop-index-init g c = record {
   same_beside = refl;
   same_rest = refl;
   able = c.requires.able;
+  unstored = unstored_same _ _;
   same_place = refl;
 }
 
@@ -30,5 +32,6 @@ loop-index-preserved g c =
       same_beside = c.store_area.ensures.beside ∙ c.loop-index.invariant.same_beside;
       same_rest = c.store_area.ensures.rest ∙ c.loop-index.invariant.same_rest;
       able = c.in_ok-store_area.ensures.stays;
+      unstored = unstored_then _ _ _ _ _ _ c.loop-index.invariant.unstored c.store_area.ensures.unstored;
       same_place = c.store_area.ensures.place ∙ c.loop-index.invariant.same_place;
     }

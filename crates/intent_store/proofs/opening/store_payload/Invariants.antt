@@ -2,6 +2,7 @@ use Rattle.std.proofs.Common.{◌≡◌, true, take}
 use Rattle.record_layouts.specs.Held.{beside}
 use Rattle.record_layouts.specs.Overlay.{HasArea, area_at}
 use Rattle.intent_store.specs.Blocks.{IsShutLike, with_words_at}
+use Rattle.intent_store.specs.Stores.{KeepsUnstored}
 use Rattle.intent_store.proofs.opening.store_payload.Given as goal
 
 -- the first words of the payload are stored
@@ -15,5 +16,6 @@ invariant-loop-index g l =
       same_beside : beside l.base (words l.store) ≡ beside l.base (words l.fn.store);
       same_rest : g.W.WordStore.rest l.store ≡ g.W.WordStore.rest l.fn.store;
       able : g.W.WordStore.able l.store ≡ true;
+      unstored : KeepsUnstored (g.W.WordStore.made l.fn.store) (g.W.WordStore.made l.store) (words l.fn.store) (words l.store);
       same_place : g.W.WordStore.place l.store ≡ g.W.WordStore.place l.fn.store;
     }

@@ -17,5 +17,5 @@ loop-place-preserved c =
     let stored = c.in-Ok.ensures.ok in
     record {
       armed = subst IsArmed (sym stored) (IsArmed-stored s _ _ _ c.loop-place.invariant.armed);
-      free = ap (λ (p : PlantState). p.refused) stored ∙ c.loop-place.invariant.free;
+      free = ap (λ (p : PlantState). p.refusal) stored ∙ c.loop-place.invariant.free;
     }

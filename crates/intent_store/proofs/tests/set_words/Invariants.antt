@@ -1,4 +1,4 @@
-use Rattle.std.proofs.Common.{◌≡◌, false}
+use Rattle.std.proofs.Common.{◌≡◌, None}
 use Rattle.ow_plant.specs.State.{IsArmed}
 use Rattle.intent_store.proofs.tests.set_words.Given as goal
 
@@ -6,5 +6,5 @@ use Rattle.intent_store.proofs.tests.set_words.Given as goal
 abbrev pub invariant-loop-place : goal.invariant-loop-place
 invariant-loop-place l = record {
   armed : IsArmed l.plant;
-  free : l.plant.refused ≡ false;
+  free : l.plant.refusal ≡ None;
 }
