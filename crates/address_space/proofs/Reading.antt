@@ -34,13 +34,13 @@ bytes_all pages (b ∷ bs) address each =
     rw here (ap (λ rest. pages.bytes address ∷ rest) behind)
 
 module _ (pages : Pages) where
-  pub readable_all : (address count : ℕ) → ((k : ℕ) → k < count → is_some (rights_at pages (address + k)) ≡ true) → is_readable pages address count ≡ true
+  readable_all : (address count : ℕ) → ((k : ℕ) → k < count → is_some (rights_at pages (address + k)) ≡ true) → is_readable pages address count ≡ true
   unfolding is_readable
   readable_all = whole_true (λ a. is_some (rights_at pages a)) (is_readable pages) (λ a. refl) (λ a n. refl)
 
-  pub unreadable_at : (address count k : ℕ) → k < count → rights_at pages (address + k) ≡ None → is_readable pages address count ≡ false
+  unreadable_at : (address count k : ℕ) → k < count → is_some (rights_at pages (address + k)) ≡ false → is_readable pages address count ≡ false
   unfolding is_readable
-  unreadable_at address count k below none = whole_false (λ a. is_some (rights_at pages a)) (is_readable pages) (λ a. refl) (λ a n. refl) address count k below (ap is_some none)
+  unreadable_at = whole_false (λ a. is_some (rights_at pages a)) (is_readable pages) (λ a. refl) (λ a n. refl)
 
   writable_all : (address count : ℕ) → ((k : ℕ) → k < count → are_values (rights_at pages (address + k)) ≡ true) → is_writable pages address count ≡ true
   unfolding is_writable
@@ -55,8 +55,8 @@ module _ (pages : Pages) where
   open_all Write = writable_all
 
   pub shut_at : (access : Access) (address count k : ℕ) → k < count → allows access (rights_at pages (address + k)) ≡ false → is_open_to access pages address count ≡ false
-  shut_at Read address count k below shut = whole_false (λ a. is_some (rights_at pages a)) (is_readable pages) (λ a. refl) (λ a n. refl) address count k below shut
-  shut_at Write address count k below shut = unwritable_at address count k below shut
+  shut_at Read = unreadable_at
+  shut_at Write = unwritable_at
 
   -- what is read when all is read
   pub all_read : (address : ℕ) (bytes : List ℕ) (count : ℕ) → AreRead pages address bytes count → length bytes ≤ count
@@ -81,17 +81,11 @@ module _ (r : Records) (words : WordMap) (slot : ℕ) (process : Option ProcRec)
   unfolding map_in
   mapping_there page a same = rw (same, there) refl
 
-  pub unread_behind : (done count : ℕ) → IfSome process FitsProc → done < count → 2 ^ 32 ≤ address + done → false ≡ is_readable (framed_pages r words slot) address count
-  unread_behind done count fits below high =
-      let page : ℕ = (address + done) / 4096 in
-      sym (unreadable_at (framed_pages r words slot) address count done below
-      (ap rights_in (mapping_there page (address + done) refl ∙ none_behind r slot page process fits (omega arith))))
-
   pub unread_without_frame : (done count : ℕ) → done < count → frame_if r slot ((address + done) / 4096) process ≡ None → false ≡ is_readable (framed_pages r words slot) address count
   unread_without_frame done count below none =
       let page : ℕ = (address + done) / 4096 in
-      sym (unreadable_at (framed_pages r words slot) address count done below
-      (ap rights_in (mapping_there page (address + done) refl ∙ none_without_frame r slot page process none)))
+      sym (shut_at (framed_pages r words slot) Read address count done below
+      (ap (λ m. is_some (rights_in m)) (mapping_there page (address + done) refl ∙ none_without_frame r slot page process none)))
 
   pub shut_behind : (access : Access) (done count : ℕ) → IfSome process FitsProc → done < count → 2 ^ 32 ≤ address + done → false ≡ is_open_to access (framed_pages r words slot) address count
   shut_behind access done count fits below high =

@@ -177,11 +177,11 @@ module _ (r : Records) (head : HeadRec) (slot : ℕ) (process : ProcRec) (bank :
   unfolding ended_items
   exited_sound status word = ended_sound r head slot process status trap sound is_head is word
 
-  in_write : (d : DescRec) (done : ℕ) → IsWrite r saved d → done < argument_of saved 2 → IsInCall r (staying_process saved done)
-  in_write d done write left = inl (refl, (d, record { descriptor = write.descriptor; named = write.named; there = write.there; allowed = write.allowed; count = write.count; left = left }))
+  stays_in_write : (d : DescRec) (done : ℕ) → IsWrite r saved d → done < argument_of saved 2 → IsInCall r (staying_process saved done)
+  stays_in_write d done write left = inl (refl, (d, record { descriptor = write.descriptor; named = write.named; there = write.there; allowed = write.allowed; count = write.count; left = left }))
 
   pub staying_sound : (d : DescRec) (done : ℕ) → IsWrite r saved d → done < argument_of saved 2 → AreSound (with_items r (items_of (caller_with slot trap head saved) (staying_process saved done)))
-  staying_sound d done write left = after_sound r head slot process (staying_process saved done) trap sound is_head is (staying_after done) (staying_fits done) (λ s. in_write d done write left)
+  staying_sound d done write left = after_sound r head slot process (staying_process saved done) trap sound is_head is (staying_after done) (staying_fits done) (λ s. stays_in_write d done write left)
 
   pub written_sound : (d : DescRec) (done : ℕ) → IsWrite r saved d → done ≤ argument_of saved 2
       → AreSound (with_items r (items_of (caller_with slot trap head saved) (written_process saved (argument_of saved 2) done)))
