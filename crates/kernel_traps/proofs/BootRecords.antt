@@ -9,7 +9,7 @@ use Rattle.record_layouts.specs.Proc.{FitsProc, IsBlankBank, IsOver}
 use Rattle.process_table.specs.Patches.{blank_bank}
 use Rattle.ow_base.specs.declared.worlds.Load.{Load}
 use Rattle.record_layouts.specs.File.{FitsFile}
-use Rattle.record_layouts.specs.Held.{Held, patched}
+use Rattle.record_layouts.specs.Held.{Held, SectorsAre, patched}
 use Rattle.record_layouts.specs.declared.patch.AnyRec.TheVariants as any
 use Rattle.record_layouts.specs.declared.places.RecordId.TheVariants as id
 use Rattle.record_layouts.specs.declared.proc.ProcRec.{ProcRec}
@@ -69,6 +69,10 @@ set_more first count k value old is =
     λ i j. (let e : updated (set_from first count value old) k (Some (value k)) j ≡ set_from first (count + 1) value old j = grind (arith, nat_tests) in e) i
 
 -- where there is no file, that can be spelled
+-- no sector of it is on the disk
+pub none_on_disk : (sectors : ℕ) (file : FileRec) → file ≡ unused_file → SectorsAre sectors (any.File file)
+none_on_disk sectors file is = rw is (All-nil (λ (sector : ℕ). sector < sectors))
+
 pub unused_file_fits : FitsFile unused_file
 unused_file_fits = record {
   state = record { known = omega arith; none = λ e. (refl, refl, refl); named = λ e. absurd (omega (arith, e)) };

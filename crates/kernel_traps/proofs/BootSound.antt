@@ -1,5 +1,5 @@
 -- A kernel that has booted is sound.
-use Rattle.std.proofs.Common.{◌≡◌, ℕ, ◌+◌, ◌*◌, ◌<◌, Bool, true, false, ◌==◌, if◌then◌else◌, [], length, is_some, refl, sym, ap, subst, ◌∙◌, arith}
+use Rattle.std.proofs.Common.{◌≡◌, ℕ, ◌+◌, ◌*◌, ◌<◌, ◌≤◌, Bool, true, false, ◌==◌, if◌then◌else◌, [], length, is_some, refl, sym, ap, subst, ◌∙◌, arith}
 use Rattle.ow_base.specs.Screen.{blank_screen, screen_of}
 use Rattle.ow_base.specs.declared.machine.Shape.{Shape}
 use Rattle.ow_base.specs.declared.worlds.Load.{Load}
@@ -19,7 +19,7 @@ use Rattle.kernel_traps.specs.Boot.{IsBootable}
 use Rattle.kernel_traps.specs.BootPages.{pages_before}
 use Rattle.kernel_traps.specs.BootRecords.{silent_record}
 use Rattle.kernel_traps.specs.BootState.{IsBooted}
-use Rattle.kernel_traps.specs.Plants.{AreTerminalsSound, HasBytes, IsHeldSound, IsOfDevice, IsSound, tapes_of, unix_at}
+use Rattle.kernel_traps.specs.Plants.{AreTerminalsSound, IsHeldSound, IsOfDevice, IsSound, tapes_of, unix_at}
 use Rattle.kernel_traps.specs.Turning.{IsSameMachine}
 use Rattle.kernel_traps.proofs.BootFrames.{clean_there, is_mapped_there}
 use Rattle.kernel_traps.proofs.BootHeld.{IsBuilt, booted, of_shape, same_rest, words_booted}
@@ -80,8 +80,8 @@ silent_sound : (r : Records) (tty room : ℕ) (device : Device) → device ≡ s
 unfolding screen_of
 silent_sound r tty room device silent shown = rw silent (record { counted = refl; base = omega arith; rows = shown; display = refl })
 
-silent_bytes : (device : Device) (steps budget : ℕ) → device ≡ silent_device (16 * budget) → HasBytes device steps budget
-silent_bytes device steps budget silent = rw silent (record { few = omega arith; room = refl })
+silent_bytes : (device : Device) (steps room : ℕ) → device ≡ silent_device room → length device.tape ≤ 16 * steps
+silent_bytes device steps room silent = rw silent (omega arith)
 
 module _ (load : Load) (old new : PlantState) (b : IsBuilt load old new) where
   rest : rest_of new ≡ rest_of old
@@ -139,7 +139,7 @@ module _ (load : Load) (old new : PlantState) (b : IsBuilt load old new) where
         rw (is_booted.terms tty low)
         (silent_sound (records_held new) tty (16 * new.shape.budget) (tty_of new tty) (device tty) (blank_shows (is_blank
         (records_held new) load b.is is_booted tty low)));
-    bytes = λ tty low. silent_bytes (tty_of new tty) new.steps new.shape.budget (device tty);
+    bytes = λ tty low. silent_bytes (tty_of new tty) new.steps (16 * new.shape.budget) (device tty);
   }
 
   pub sound_booted : IsSound new
@@ -149,7 +149,6 @@ module _ (load : Load) (old new : PlantState) (b : IsBuilt load old new) where
     served = rw (is_booted.head, outside, b.last.first) (omega arith);
     terminals = are_terminals;
     budget = omega (arith, no_steps);
-    most = omega (arith, ap (λ (s : Shape). s.budget) (of_shape load old new b), b.is.most_steps);
     in_user = λ inside. absurd (cc (inside, idle));
   }
 
