@@ -117,20 +117,34 @@ const BROKEN: [(u32, u32, u32, u32, u32); 7] = [
     (TABLE, 1, VALUES * 1024 + 0xd7, 4096, 12),
 ];
 
+/// How the turn of a program ends that stands at `pc`, under tables of which this word is changed.
+fn turn_under(
+    alloc: Global,
+    frame: u32,
+    word: u32,
+    entry: u32,
+    pc: u32,
+) -> Result<UserEnd, AllocError>
+    requires { word < 1024 }
+{
+    let mut plant = Plant::new(alloc);
+    plant.arm(alloc, SHAPE, &[], &[], &[])?;
+    let _ = set(&mut plant, ROOT, 0, TABLE * 1024 + 1);
+    let _ = set(&mut plant, TABLE, 0, CODE * 1024 + 0x5b);
+    let _ = set(&mut plant, TABLE, 1, VALUES * 1024 + 0xd7);
+    let _ = set(&mut plant, CODE, 0, 0x0000_0013);
+    let _ = set(&mut plant, frame, word, entry);
+    let regs = Regs::new();
+    plant.to_user(1, &Bank { pc, regs }, ROOT);
+    Ok(plant.user_step())
+}
+
 #[test]
 fn tables_may_lead_anywhere(rt: HostRuntime) -> Result<(), Fail> {
     for (frame, word, entry, pc, cause) in BROKEN {
-        let mut plant = Plant::new(rt.alloc());
-        plant.arm(rt.alloc(), SHAPE, &[], &[], &[])?;
-        let _ = set(&mut plant, ROOT, 0, TABLE * 1024 + 1);
-        let _ = set(&mut plant, TABLE, 0, CODE * 1024 + 0x5b);
-        let _ = set(&mut plant, TABLE, 1, VALUES * 1024 + 0xd7);
-        let _ = set(&mut plant, CODE, 0, 0x0000_0013);
-        assert!(rt; word < 1024 && set(&mut plant, frame, word, entry));
-        let regs = Regs::new();
-        plant.to_user(1, &Bank { pc, regs }, ROOT);
-        let fault = Fault { cause, value: pc };
-        assert_eq!(rt; plant.user_step(), UserEnd::Fault(fault), "{entry:08x}");
+        assert!(rt; word < 1024);
+        let end = turn_under(rt.alloc(), frame, word, entry, pc)?;
+        assert_eq!(rt; end, UserEnd::Fault(Fault { cause, value: pc }));
     }
     Ok(())
 }
@@ -177,32 +191,59 @@ fn serve(plant: &mut Plant, stores: u32) -> bool
     plant.leave().is_ok()
 }
 
-/// The trap and the store of a point, whether nothing was refused in each of two traps, with 3 stores and with 2, the
-/// traps begun then, the stores made in the last one, and those made in all.
-const STOPPED: [(u32, u32, (bool, bool), u32, u32, u64); 6] = [
-    (1, 0, (false, false), 1, 0, 0),
-    (1, 2, (false, false), 1, 2, 2),
-    (1, 3, (false, false), 1, 3, 3),
-    (2, 1, (true, false), 2, 1, 4),
-    (2, 0xffff_ffff, (true, false), 2, 2, 5),
-    (3, 0, (true, true), 2, 2, 5),
+/// What two traps, with 3 stores and with 2, come to: whether nothing was refused in either, the trap that runs or is to
+/// come, the stores made in the one that was begun last and in all, and whether then a byte is written, of which the
+/// cursor tells too, and the trap is left once more.
+#[derive(Clone, Copy, Debug, PartialEq, Eq)]
+struct Outcome {
+    served: (bool, bool),
+    trap: u32,
+    made: (u32, u64),
+    goes_on: (bool, u32, bool),
+}
+
+fn two_traps(alloc: Global, trap: u32, store: u32) -> Result<Outcome, AllocError>
+    requires first { 1 ≤ trap }
+    requires last { trap < 100 }
+{
+    let mut plant = with_points(alloc, trap, store)?;
+    let first = serve(&mut plant, 3);
+    let second = first && serve(&mut plant, 2);
+    let trap = plant.now().trap;
+    let made = (plant.stores_made(), plant.all_stores());
+    let written = plant.put(1, b'x').is_ok();
+    let (_, col) = plant.display(1).at();
+    Ok(Outcome {
+        served: (first, second),
+        trap,
+        made,
+        goes_on: (written, col, plant.leave().is_ok()),
+    })
+}
+
+/// The trap and the store of a point, in which of the two traps nothing is refused, and the stores made.
+const POINTS: [(u32, u32, (bool, bool), (u32, u64)); 6] = [
+    (1, 0, (false, false), (0, 0)),
+    (1, 2, (false, false), (2, 2)),
+    (1, 3, (false, false), (3, 3)),
+    (2, 1, (true, false), (1, 4)),
+    (2, 0xffff_ffff, (true, false), (2, 5)),
+    (3, 0, (true, true), (2, 5)),
 ];
 
+// Where something is refused the trap is not left, and nothing is done from then on.
 #[test]
 fn points_refuse(rt: HostRuntime) -> Result<(), Fail> {
-    for (trap, store, served, traps, made, all) in STOPPED {
+    for (trap, store, served, made) in POINTS {
         assert!(rt; 1 <= trap && trap < 100);
-        let mut plant = with_points(rt.alloc(), trap, store)?;
-        let first = serve(&mut plant, 3);
-        let second = first && serve(&mut plant, 2);
-        assert_eq!(rt; (first, second), served);
-        assert_eq!(rt; (plant.traps(), plant.now().trap), (traps, trap));
-        assert_eq!(rt; (plant.stores_made(), plant.all_stores()), (made, all));
-        // one store more is made exactly where none was refused, and nothing follows a refusal
-        let goes_on = plant.put(1, b'x').is_ok();
-        assert_eq!(rt; (goes_on, plant.leave().is_ok()), (second, second));
-        assert_eq!(rt; plant.tape(1).is_empty(), !second);
-        assert_eq!(rt; plant.display(1).at(), (0, u32::from(second)));
+        let goes_on = (served.1, u32::from(served.1), served.1);
+        let wanted = Outcome {
+            served,
+            trap,
+            made,
+            goes_on,
+        };
+        assert_eq!(rt; two_traps(rt.alloc(), trap, store)?, wanted);
     }
     Ok(())
 }
