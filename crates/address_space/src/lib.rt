@@ -10,6 +10,4 @@ pub use ranges::{can_read, can_write, user_bytes};
 pub use record_layouts::{ProcRec, RecordView};
 
 #[cfg(test)]
-mod fake_view;
-#[cfg(test)]
 mod tests;

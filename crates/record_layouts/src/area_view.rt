@@ -177,6 +177,3 @@ impl<W: WordSource> RecordView for AreaView<'_, W> {
         self.map.pool_base
     }
 }
-
-#[cfg(test)]
-mod tests;

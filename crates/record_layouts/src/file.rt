@@ -85,7 +85,11 @@ impl FileRec {
         ensures fits { IfSome result FitsFile }
     {
         let file = FileRec::from_words(words)?;
-        if file.is_on_disk(sectors) { Some(file) } else { None }
+        if file.is_on_disk(sectors) {
+            Some(file)
+        } else {
+            None
+        }
     }
 
     fn fits(&self) -> bool
@@ -150,6 +154,3 @@ fn are_empty(bytes: &[u8]) -> bool
 {
     bytes.iter().all(|byte| *byte == 0)
 }
-
-#[cfg(test)]
-mod tests;
