@@ -64,7 +64,8 @@ fn kernel_turn(plant: &mut Plant) -> Result<Turn, Panicked>
 /// One turn of the machine: an instruction of the process in user mode, or a trap. Where no process is live nothing is
 /// done.
 ///
-/// `Panicked` comes only where a store of the trap, or its end, was refused.
+/// `Panicked` comes only where a store of the trap, or its end, was refused, and a trap that was made had no panic listed
+/// for it.
 pub fn serve_trap(plant: &mut Plant) -> Result<Turn, Panicked>
     requires sound { IsSound plant.old }
     requires traps { plant.old.traps < 2 ^ 32 - 2 }
