@@ -12,7 +12,9 @@ use Rattle.record_layouts.specs.Proc.{FitsProc}
 use Rattle.record_layouts.specs.Pages.{byte_on, frame_if}
 use Rattle.frame_table.specs.Maps.{framed_pages, map_if, map_in}
 use Rattle.frame_table.proofs.Framed.{rights_of_frame, byte_of_frame, none_without_frame, none_behind}
-use Rattle.address_space.specs.Writable.{are_values, is_writable}
+use Rattle.address_space.specs.Writable.{allows, are_values, is_open_to, is_writable}
+use Rattle.address_space.specs.declared.access.Access.{Access}
+use Rattle.address_space.specs.declared.access.Access.TheVariants.{Read, Write}
 use Rattle.address_space.proofs.Tested.{whole_true, whole_false}
 
 -- the first of these bytes, so many, are those of the pages from an address on
@@ -32,26 +34,39 @@ bytes_all pages (b ∷ bs) address each =
     rw here (ap (λ rest. pages.bytes address ∷ rest) behind)
 
 module _ (pages : Pages) where
-  pub readable_all : (address count : ℕ) → ((k : ℕ) → k < count → is_some (rights_at pages (address + k)) ≡ true) → is_readable pages address count ≡ true
+  readable_all : (address count : ℕ) → ((k : ℕ) → k < count → is_some (rights_at pages (address + k)) ≡ true) → is_readable pages address count ≡ true
   unfolding is_readable
   readable_all = whole_true (λ a. is_some (rights_at pages a)) (is_readable pages) (λ a. refl) (λ a n. refl)
 
-  pub unreadable_at : (address count k : ℕ) → k < count → rights_at pages (address + k) ≡ None → is_readable pages address count ≡ false
+  unreadable_at : (address count k : ℕ) → k < count → is_some (rights_at pages (address + k)) ≡ false → is_readable pages address count ≡ false
   unfolding is_readable
-  unreadable_at address count k below none = whole_false (λ a. is_some (rights_at pages a)) (is_readable pages) (λ a. refl) (λ a n. refl) address count k below (ap is_some none)
+  unreadable_at = whole_false (λ a. is_some (rights_at pages a)) (is_readable pages) (λ a. refl) (λ a n. refl)
 
-  pub writable_all : (address count : ℕ) → ((k : ℕ) → k < count → are_values (rights_at pages (address + k)) ≡ true) → is_writable pages address count ≡ true
+  writable_all : (address count : ℕ) → ((k : ℕ) → k < count → are_values (rights_at pages (address + k)) ≡ true) → is_writable pages address count ≡ true
   unfolding is_writable
   writable_all = whole_true (λ a. are_values (rights_at pages a)) (is_writable pages) (λ a. refl) (λ a n. refl)
 
-  pub unwritable_at : (address count k : ℕ) → k < count → are_values (rights_at pages (address + k)) ≡ false → is_writable pages address count ≡ false
+  unwritable_at : (address count k : ℕ) → k < count → are_values (rights_at pages (address + k)) ≡ false → is_writable pages address count ≡ false
   unfolding is_writable
   unwritable_at = whole_false (λ a. are_values (rights_at pages a)) (is_writable pages) (λ a. refl) (λ a n. refl)
+
+  pub open_all : (access : Access) (address count : ℕ) → ((k : ℕ) → k < count → allows access (rights_at pages (address + k)) ≡ true) → is_open_to access pages address count ≡ true
+  open_all Read = readable_all
+  open_all Write = writable_all
+
+  pub shut_at : (access : Access) (address count k : ℕ) → k < count → allows access (rights_at pages (address + k)) ≡ false → is_open_to access pages address count ≡ false
+  shut_at Read = unreadable_at
+  shut_at Write = unwritable_at
 
   -- what is read when all is read
   pub all_read : (address : ℕ) (bytes : List ℕ) (count : ℕ) → AreRead pages address bytes count → length bytes ≤ count
       → (is_readable pages address (length bytes) ≡ true) × (bytes ≡ bytes_at pages address (length bytes))
   all_read address bytes count are all = (readable_all address (length bytes) (λ k below. are.there k (omega arith)), bytes_all pages bytes address (λ k below. are.read k (omega arith)))
+
+-- where there is no page nothing is allowed
+none_allowed : (access : Access) → allows access None ≡ false
+none_allowed Read = refl
+none_allowed Write = refl
 
 -- an item of a list of which a part is written
 put_before : (a n : ℕ) (xs ys : List ℕ) (k : ℕ) → k < a → a ≤ length xs → get_or (put_mid a n xs ys) k 0 ≡ get_or xs k 0
@@ -66,28 +81,22 @@ module _ (r : Records) (words : WordMap) (slot : ℕ) (process : Option ProcRec)
   unfolding map_in
   mapping_there page a same = rw (same, there) refl
 
-  pub unread_behind : (done count : ℕ) → IfSome process FitsProc → done < count → 2 ^ 32 ≤ address + done → false ≡ is_readable (framed_pages r words slot) address count
-  unread_behind done count fits below high =
-      let page : ℕ = (address + done) / 4096 in
-      sym (unreadable_at (framed_pages r words slot) address count done below
-      (ap rights_in (mapping_there page (address + done) refl ∙ none_behind r slot page process fits (omega arith))))
-
   pub unread_without_frame : (done count : ℕ) → done < count → frame_if r slot ((address + done) / 4096) process ≡ None → false ≡ is_readable (framed_pages r words slot) address count
   unread_without_frame done count below none =
       let page : ℕ = (address + done) / 4096 in
-      sym (unreadable_at (framed_pages r words slot) address count done below
-      (ap rights_in (mapping_there page (address + done) refl ∙ none_without_frame r slot page process none)))
+      sym (shut_at (framed_pages r words slot) Read address count done below
+      (ap (λ m. is_some (rights_in m)) (mapping_there page (address + done) refl ∙ none_without_frame r slot page process none)))
 
-  pub unwritten_behind : (done count : ℕ) → IfSome process FitsProc → done < count → 2 ^ 32 ≤ address + done → false ≡ is_writable (framed_pages r words slot) address count
-  unwritten_behind done count fits below high =
+  pub shut_behind : (access : Access) (done count : ℕ) → IfSome process FitsProc → done < count → 2 ^ 32 ≤ address + done → false ≡ is_open_to access (framed_pages r words slot) address count
+  shut_behind access done count fits below high =
       let page : ℕ = (address + done) / 4096 in
-      sym (unwritable_at (framed_pages r words slot) address count done below
-      (ap (λ m. are_values (rights_in m)) (mapping_there page (address + done) refl ∙ none_behind r slot page process fits (omega arith))))
+      sym (shut_at (framed_pages r words slot) access address count done below
+      (ap (λ m. allows access (rights_in m)) (mapping_there page (address + done) refl ∙ none_behind r slot page process fits (omega arith)) ∙ none_allowed access))
 
-  pub unwritten_at : (done count : ℕ) → done < count → are_values (rights_in (map_if r slot ((address + done) / 4096) process)) ≡ false → false ≡ is_writable (framed_pages r words slot) address count
-  unwritten_at done count below none =
+  pub shut_there : (access : Access) (done count : ℕ) → done < count → allows access (rights_in (map_if r slot ((address + done) / 4096) process)) ≡ false → false ≡ is_open_to access (framed_pages r words slot) address count
+  shut_there access done count below none =
       let page : ℕ = (address + done) / 4096 in
-      sym (unwritable_at (framed_pages r words slot) address count done below (ap (λ m. are_values (rights_in m)) (mapping_there page (address + done) refl) ∙ none))
+      sym (shut_at (framed_pages r words slot) access address count done below (ap (λ m. allows access (rights_in m)) (mapping_there page (address + done) refl) ∙ none))
 
   -- the bytes of one page more are read
   pub read_more : (old part : List ℕ) (done end frame : ℕ) → AreRead (framed_pages r words slot) address old done → frame_if r slot ((address + done) / 4096) process ≡ Some frame
@@ -118,10 +127,10 @@ module _ (r : Records) (words : WordMap) (slot : ℕ) (process : Option ProcRec)
         ];
       }
 
-  pub written_more : (done end : ℕ) → ((k : ℕ) → k < done → are_values (rights_at (framed_pages r words slot) (address + k)) ≡ true)
-      → are_values (rights_in (map_if r slot ((address + done) / 4096) process)) ≡ true → end ≤ done + (4096 - (address + done) % 4096)
-      → (k : ℕ) → k < end → are_values (rights_at (framed_pages r words slot) (address + k)) ≡ true
-  written_more done end before found near k below = elim (cases_lt k done) [
+  pub open_more : (access : Access) (done end : ℕ) → ((k : ℕ) → k < done → allows access (rights_at (framed_pages r words slot) (address + k)) ≡ true)
+      → allows access (rights_in (map_if r slot ((address + done) / 4096) process)) ≡ true → end ≤ done + (4096 - (address + done) % 4096)
+      → (k : ℕ) → k < end → allows access (rights_at (framed_pages r words slot) (address + k)) ≡ true
+  open_more access done end before found near k below = elim (cases_lt k done) [
     | inl earlier ↦ before k earlier
-    | inr behind ↦ ap (λ m. are_values (rights_in m)) (mapping_there ((address + done) / 4096) (address + k) (omega arith)) ∙ found
+    | inr behind ↦ ap (λ m. allows access (rights_in m)) (mapping_there ((address + done) / 4096) (address + k) (omega arith)) ∙ found
   ]

@@ -1,8 +1,10 @@
--- Where a process can write.
-use Rattle.std.specs.Prelude.{ℕ, zero, suc, ◌+◌, Bool, true, false, ◌&&◌, Option, Some, None}
-use Rattle.ow_base.specs.Pages.{Pages, rights_at}
+-- Where a process can write, and where it has an access at all.
+use Rattle.std.specs.Prelude.{ℕ, zero, suc, ◌+◌, Bool, true, false, ◌&&◌, Option, Some, None, is_some}
+use Rattle.ow_base.specs.Pages.{Pages, is_readable, rights_at}
 use Rattle.ow_base.specs.declared.machine.Rights.{Rights}
 use Rattle.ow_base.specs.declared.machine.Rights.TheVariants.{Code, Values}
+use Rattle.address_space.specs.declared.access.Access.{Access}
+use Rattle.address_space.specs.declared.access.Access.TheVariants.{Read, Write}
 
 abbrev pub are_values : Option Rights → Bool
 are_values (Some Values) = true
@@ -13,3 +15,13 @@ are_values None = false
 unfoldable pub is_writable : Pages → (address count : ℕ) → Bool
 is_writable pages address zero = true
 is_writable pages address (suc n) = are_values (rights_at pages address) && is_writable pages (address + 1) n
+
+-- rights allow an access
+abbrev pub allows : Access → Option Rights → Bool
+allows Read rights = is_some rights
+allows Write rights = are_values rights
+
+-- so many bytes from an address on can be accessed
+abbrev pub is_open_to : Access → Pages → (address count : ℕ) → Bool
+is_open_to Read pages address count = is_readable pages address count
+is_open_to Write pages address count = is_writable pages address count

@@ -1,14 +1,13 @@
 //! The memory of a process as a kernel sees it: bytes at the addresses of the process.
 #![tactic(auto)]
 
+mod access;
 mod ranges;
 
 pub use frame_table::{page_frame, pages, region};
 pub use ow_base::{Efault, Rights};
-pub use ranges::{can_write, user_bytes};
+pub use ranges::{can_read, can_write, user_bytes};
 pub use record_layouts::{ProcRec, RecordView};
 
-#[cfg(test)]
-mod fake_view;
 #[cfg(test)]
 mod tests;

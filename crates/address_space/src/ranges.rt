@@ -1,4 +1,4 @@
-//! Ranges of addresses of a process: what is read there, and whether it can write there.
+//! Ranges of addresses of a process: what is read there, and whether it can read or write there.
 
 ghost use Rattle.std.specs.Prelude.{◌≡◌, ◌+◌, ◌<◌, ◌≤◌, ◌^◌, length, slice_index, true, is_ok, OnOk, EachIndex, IfSome, Some};
 ghost use Rattle.ow_base.specs.Pages.{bytes_at, is_readable};
@@ -7,8 +7,9 @@ ghost use Rattle.record_layouts.specs.Proc.{FitsProc};
 ghost use Rattle.record_layouts.specs.declared.proc.ProcRec.{ProcRec};
 ghost use Rattle.sv32_tables.specs.Spaces.{rights_in};
 ghost use Rattle.frame_table.specs.Maps.{framed_pages, map_if};
-ghost use Rattle.address_space.specs.Writable.{are_values, is_writable};
+ghost use Rattle.address_space.specs.Writable.{allows, is_open_to, is_writable};
 
+use crate::access::Access;
 use frame_table::{frame_of_page, region};
 use ow_base::{Efault, Rights};
 use record_layouts::{ProcRec, RecordView};
@@ -43,6 +44,26 @@ pub fn user_bytes<V: RecordView>(
     read_range(view, slot, &process, addr, to)
 }
 
+/// Whether a process can read so many bytes from an address on.
+///
+/// `Efault` exactly where a byte of the range lies in no page of the process in the slot, or the range passes 2^32. Pages
+/// count as in `user_bytes`.
+#[tactic(auto, using(frame_table::proofs::Tables::framed_same))]
+pub fn can_read<V: RecordView>(view: &V, slot: u32, addr: u32, n: u32) -> Result<(), Efault>
+    requires slot { slot < 16 }
+    ensures answer { is_ok result ≡ is_readable (framed_pages (V.records view.now) (V.words view.now) slot) addr n }
+    ensures process_answer { (process : ProcRec) → (V.records view.now).procs slot ≡ Some process
+        → is_mapped (V.records view.now) slot process ≡ true
+        → is_ok result ≡ is_readable (pages_of (V.records view.now) (V.words view.now) slot process) addr n }
+{
+    let process = view.proc(slot);
+    if is_range_open(view, slot, &process, Access::Read, addr, n) {
+        Ok(())
+    } else {
+        Err(Efault)
+    }
+}
+
 /// Whether a process can write so many bytes from an address on.
 ///
 /// `Efault` exactly where a byte of the range lies in no page of values of the process in the slot, or the range passes
@@ -56,7 +77,7 @@ pub fn can_write<V: RecordView>(view: &V, slot: u32, addr: u32, n: u32) -> Resul
         → is_ok result ≡ is_writable (pages_of (V.records view.now) (V.words view.now) slot process) addr n }
 {
     let process = view.proc(slot);
-    if is_range_of_values(view, slot, &process, addr, n) {
+    if is_range_open(view, slot, &process, Access::Write, addr, n) {
         Ok(())
     } else {
         Err(Efault)
@@ -93,25 +114,26 @@ fn read_range<V: RecordView>(
     Ok(())
 }
 
-// Whether each byte of the range lies in a page of values, asked page by page.
-fn is_range_of_values<V: RecordView>(
+// Whether each byte of the range lies in a page that is open to the access, asked page by page.
+fn is_range_open<V: RecordView>(
     view: &V,
     slot: u32,
     process: &Option<ProcRec>,
+    access: Access,
     addr: u32,
     n: u32,
 ) -> bool
     requires slot { slot < 16 }
     requires read { (V.records view.now).procs slot ≡ process.now }
     requires fits { IfSome process.now FitsProc }
-    ensures { result ≡ is_writable (framed_pages (V.records view.now) (V.words view.now) slot) addr n }
+    ensures { result ≡ is_open_to access (framed_pages (V.records view.now) (V.words view.now) slot) addr n }
 {
     let mut done = 0;
     while done < n {
         let Some(place) = addr.checked_add(done) else {
             return false;
         };
-        if !is_of_values(view, slot, process, place / PAGE) {
+        if !is_page_open(view, slot, process, access, place / PAGE) {
             return false;
         }
         done += (n - done).min(PAGE - place % PAGE);
@@ -132,18 +154,28 @@ fn frame_in<V: RecordView>(view: &V, slot: u32, process: &Option<ProcRec>, page:
     }
 }
 
-// Whether a page of a slot that has this process is one of values and has a frame.
+// Whether a page of a slot that has this process has a frame and is open to the access.
 #[tactic(auto, unfolding(frame_table::specs::Maps::map_of))]
-fn is_of_values<V: RecordView>(view: &V, slot: u32, process: &Option<ProcRec>, page: u32) -> bool
+fn is_page_open<V: RecordView>(
+    view: &V,
+    slot: u32,
+    process: &Option<ProcRec>,
+    access: Access,
+    page: u32,
+) -> bool
     requires slot { slot < 16 }
     requires page { page < 2 ^ 20 }
     requires fits { IfSome process.now FitsProc }
-    ensures { result ≡ are_values (rights_in (map_if (V.records view.now) slot page process.now)) }
+    ensures { result ≡ allows access (rights_in (map_if (V.records view.now) slot page process.now)) }
 {
     match process {
         Some(rec) => {
             let frame = frame_of_page(view, slot, rec, page);
-            matches!((region(rec, page), frame), (Some(Rights::Values), Some(_)))
+            match (access, region(rec, page), frame) {
+                (Access::Read, Some(_), Some(_)) => true,
+                (Access::Write, Some(Rights::Values), Some(_)) => true,
+                _ => false,
+            }
         }
         None => false,
     }

@@ -1,19 +1,78 @@
 //! Ranges of a process with two pages of code, one of data, one of heap and four of stack. What each must give is
-//! worked out from the view's words.
+//! worked out from the words of memory.
 
-use crate::fake_view::{SLOT, View, runner};
-use crate::{Efault, can_write, user_bytes};
+use crate::{Efault, can_read, can_write, user_bytes};
+use ow_base::{WordSource, put_seal};
+use record_layouts::{AreaView, MemoryMap};
+use std::alloc::{AllocError, Global};
+use std::test::Fail;
 
-fn view() -> View {
-    View {
-        process: runner(2, 1, 1),
-        first_of_values: 18,
+const MAP: MemoryMap = MemoryMap {
+    area_base: 1,
+    cache_base: 65,
+    pool_base: 129,
+    user_frames: 16,
+    sectors: 0,
+};
+
+// The slot of the process.
+const SLOT: u32 = 2;
+
+// Memory with the frames of the area, of the cache and of users, and no other.
+#[derive(Drop)]
+struct Memory {
+    words: Vec<u32>,
+}
+
+impl Memory {
+    // User frames 11 down to 0 belong to pages 16 to 27, as code up to the first page of values, and 12 to 15 to the four
+    // pages of stack. Counted through all of them, word `n` holds `4 * n` in its two low bytes and in its two high ones.
+    fn new(alloc: Global, brk: u32, first_of_values: u32) -> Result<Memory, AllocError> {
+        let mut words = vec![in alloc; 0u32; 147456]?;
+        let mut process = [0; 128];
+        process[..9].copy_from_slice(&[0x5052_4f43, 1, 7, 0, 0, 0, 2, 1, brk]);
+        put_seal(&mut process);
+        words[1280..1408].copy_from_slice(&process);
+        words[22528] = 0x6001;
+        words[22528 + 511] = 0x6401;
+        for frame in 0..16 {
+            let (page, place) = if frame < 12 {
+                (27 - frame, 23552 + 27 - frame)
+            } else {
+                (0x7_fff0 + frame, 24576 + 1008 + frame)
+            };
+            let flags = if page < first_of_values { 0x5b } else { 0xd7 };
+            words[place as usize] = 1024 * (129 + frame) + flags;
+            words[(10240 + frame) as usize] = 0x30_0000 + page;
+        }
+        for word in 0..16384 {
+            words[131072 + word as usize] = word * 4 * 0x1_0001;
+        }
+        Ok(Memory { words })
+    }
+}
+
+impl WordSource for Memory {
+    ghost use Rattle.std.specs.Prelude.{◌+◌, ◌-◌, ◌*◌, ◌||◌, nat_lt, not, if◌then◌else◌, slice_index, Some, None};
+
+    ghost words = { λ m frame place.
+        if nat_lt frame 1 || not (nat_lt frame 145) then None else Some (slice_index m.words.items (1024 * (frame - 1) + place)) };
+
+    fn load(&self, frame: u32, word: u32) -> Option<u32> {
+        if frame < 1 || frame >= 145 {
+            return None;
+        }
+        Some(
+            self.words
+                .get((1024 * (frame - 1) + word) as usize)
+                .copied()
+                .unwrap_or(0),
+        )
     }
 }
 
 // An address, and the bytes from there on, or how many are asked for where that is refused.
-const READS: [(u32, Result<&[u8], usize>); 21] = [
-    (0x0001_0000, Ok(&[0x00, 0xb0, 0x00, 0xb0])),
+const READS: [(u32, Result<&[u8], u32>); 15] = [
     (0x0001_0005, Ok(&[0xb0])),
     // Across the end of a page, into data, and into heap.
     (0x0001_0ffe, Ok(&[0xfc, 0xbf, 0x00, 0xa0])),
@@ -22,37 +81,35 @@ const READS: [(u32, Result<&[u8], usize>); 21] = [
     // The last byte of heap, and one more.
     (0x0001_3fff, Ok(&[0x8f])),
     (0x0001_3fff, Err(2)),
-    (0x0001_4000, Err(1)),
-    // Before code.
-    (0x0000_ffff, Err(1)),
+    // Before code, the stack and what lies beside it.
     (0x0000_ffff, Err(2)),
-    // The stack and what lies beside it.
     (0x7fff_bfff, Err(4)),
     (0x7fff_c000, Ok(&[0x00, 0xc0])),
     (0x7fff_ffff, Ok(&[0xff])),
     (0x7fff_fffe, Err(4)),
-    // No range goes on at address 0 behind the last one.
-    (0xffff_ffff, Err(1)),
+    // No range goes on at address 0 behind the last one, and nothing is asked for.
     (0xffff_ffff, Err(2)),
-    // Nothing is asked for.
-    (0x0000_0000, Ok(&[])),
-    (0x0001_4000, Ok(&[])),
-    (0x8000_0000, Ok(&[])),
-    (0xffff_ffff, Ok(&[])),
     (0x0000_0000, Err(4)),
+    (0x0000_0000, Ok(&[])),
+    (0xffff_ffff, Ok(&[])),
 ];
 
 #[test]
-fn bytes_of_a_process(rt: HostRuntime) {
-    let view = view();
+fn bytes_of_a_process(rt: HostRuntime) -> Result<(), Fail> {
+    let memory = Memory::new(rt.alloc(), 1, 18)?;
+    let view = AreaView::new(&memory, MAP);
     for (addr, want) in READS {
         let mut room = [0xee; 4];
         let count = match want {
             Ok(bytes) => bytes.len().min(4),
-            Err(count) => count.min(4),
+            Err(count) => (count % 5) as usize,
         };
-        let to = &mut room[..count];
-        let answer = user_bytes(&view, SLOT, addr, to);
+        let answer = user_bytes(&view, SLOT, addr, &mut room[..count]);
+        assert_eq!(rt;
+            can_read(&view, SLOT, addr, count as u32),
+            answer,
+            "at {addr:x}"
+        );
         match want {
             Ok(bytes) => {
                 assert_eq!(rt; answer, Ok(()), "at {addr:x}");
@@ -61,65 +118,44 @@ fn bytes_of_a_process(rt: HostRuntime) {
             Err(_) => assert_eq!(rt; answer, Err(Efault), "at {addr:x}"),
         }
     }
+    Ok(())
 }
 
-// An address, how many bytes, and whether the process can write them.
-const WRITES: [(u32, u32, bool); 20] = [
-    (0x0001_2000, 1, true),
-    (0x0001_2000, 0x2000, true),
-    (0x0001_2000, 0x2001, false),
-    (0x0001_3fff, 1, true),
-    (0x0001_3fff, 2, false),
-    // Code, and a range that begins or ends in it.
-    (0x0001_0000, 1, false),
-    (0x0001_1fff, 1, false),
-    (0x0001_1fff, 2, false),
-    (0x0001_1000, 0x3000, false),
-    (0x7fff_c000, 0x4000, true),
-    (0x7fff_c000, 0x4001, false),
-    (0x7fff_bfff, 2, false),
-    (0x7fff_ffff, 1, true),
-    (0x7fff_c000, 0xffff_ffff, false),
-    (0x0001_3fff, 0x7fff_0000, false),
-    (0xffff_ffff, 1, false),
-    (0xffff_ffff, 0xffff_ffff, false),
-    (0x0000_0000, 0, true),
-    (0x0001_0000, 0, true),
-    (0xffff_ffff, 0, true),
+// An address, how many bytes, and whether the process can write them and read them.
+const RANGES: [(u32, u32, bool, bool); 12] = [
+    (0x0001_2000, 0x2000, true, true),
+    (0x0001_2000, 0x2001, false, false),
+    (0x0001_0000, 0x4000, false, true),
+    (0x0001_0000, 0x4001, false, false),
+    (0x0001_1fff, 1, false, true),
+    (0x0001_1fff, 2, false, true),
+    (0x7fff_c000, 0x4000, true, true),
+    (0x7fff_c000, 0x4001, false, false),
+    (0x7fff_bfff, 2, false, false),
+    (0x7fff_c000, 0xffff_ffff, false, false),
+    (0xffff_ffff, 0xffff_ffff, false, false),
+    (0xffff_ffff, 0, true, true),
 ];
 
 #[test]
-fn writable_ranges(rt: HostRuntime) {
-    let view = view();
-    for (addr, count, want) in WRITES {
-        let answer = can_write(&view, SLOT, addr, count);
-        assert_eq!(rt; answer.is_ok(), want, "{count:x} at {addr:x}");
+fn ranges_of_a_process(rt: HostRuntime) -> Result<(), Fail> {
+    let memory = Memory::new(rt.alloc(), 1, 18)?;
+    let view = AreaView::new(&memory, MAP);
+    for (addr, count, writes, reads) in RANGES {
+        let can = (
+            can_write(&view, SLOT, addr, count).is_ok(),
+            can_read(&view, SLOT, addr, count).is_ok(),
+        );
+        assert_eq!(rt; can, (writes, reads), "{count:x} at {addr:x}");
+        assert_eq!(rt; can_read(&view, SLOT + 1, addr, count).is_ok(), count == 0);
     }
-}
-
-// Page 17 of code has an entry that does not fit it, and so no frame; where the record does not decode, and in another
-// slot, no page has one.
-#[test]
-fn pages_without_frames(rt: HostRuntime) {
-    let mut room = [0; 1];
-    let torn = View {
-        process: runner(2, 1, 1),
-        first_of_values: 17,
-    };
-    assert_eq!(rt; user_bytes(&torn, SLOT, 0x0001_0fff, &mut room), Ok(()));
-    assert_eq!(rt;
-        user_bytes(&torn, SLOT, 0x0001_1000, &mut room),
-        Err(Efault)
-    );
-    assert_eq!(rt; can_write(&torn, SLOT, 0x0001_1000, 1), Err(Efault));
-    let none = View {
-        process: runner(2, 1, 0x40_0000),
-        first_of_values: 18,
-    };
-    for (view, slot) in [(&none, SLOT), (&torn, SLOT + 1)] {
-        assert_eq!(rt; user_bytes(view, slot, 0x0001_2000, &mut room), Err(Efault));
-        assert_eq!(rt; user_bytes(view, slot, 0x0001_2000, &mut room[..0]), Ok(()));
-        assert_eq!(rt; can_write(view, slot, 0x0001_2000, 1), Err(Efault));
-        assert_eq!(rt; can_write(view, slot, 0x0001_2000, 0), Ok(()));
+    // Page 17 of code has an entry that does not fit it, and so no frame; and a record that does not decode.
+    for (brk, first_of_values, addr) in [(1, 17, 0x0001_1000), (0x40_0000, 18, 0x0001_2000)] {
+        let memory = Memory::new(rt.alloc(), brk, first_of_values)?;
+        let view = AreaView::new(&memory, MAP);
+        assert_eq!(rt; can_read(&view, SLOT, addr, 1), Err(Efault));
+        assert_eq!(rt; can_write(&view, SLOT, addr, 1), Err(Efault));
+        assert_eq!(rt; user_bytes(&view, SLOT, addr, &mut [0; 1]), Err(Efault));
     }
+    Ok(())
 }

@@ -14,6 +14,4 @@ pub use record_layouts::{ProcRec, RecordView};
 pub use regions::{pages, region};
 
 #[cfg(test)]
-mod fake_view;
-#[cfg(test)]
 mod tests;

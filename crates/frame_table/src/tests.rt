@@ -1,133 +1,114 @@
-//! The regions of processes at each of their ends, and the frame of a page whose records are as they should be but for
-//! one word.
+//! The regions of processes, and the frame of a page whose records are as they should be but for one word.
 
-use crate::fake_view::{SLOT, View, process, runner};
 use crate::{Rights, claim_word, page_frame, pages, region};
+use ow_base::{WordSource, put_seal};
+use record_layouts::{AreaView, MemoryMap, ProcRec};
+use std::alloc::{AllocError, Global};
+use std::test::Fail;
 
-// A process by its state and its pages, and the break.
-struct Shape {
-    state: u32,
-    code_pages: u32,
-    data_pages: u32,
-    brk: u32,
-    pages: u32,
-    regions: &'static [(u32, Option<Rights>)],
+const MAP: MemoryMap = MemoryMap {
+    area_base: 1,
+    cache_base: 65,
+    pool_base: 129,
+    user_frames: 32,
+    sectors: 0,
+};
+
+// The words of a process with this state, these pages of code and of data, and this break.
+fn process(state: u32, code_pages: u32, data_pages: u32, brk: u32) -> [u32; 128] {
+    let mut words = [0; 128];
+    words[0] = 0x5052_4f43;
+    words[1] = state;
+    words[2] = state.min(1);
+    words[6] = code_pages;
+    words[7] = data_pages;
+    words[8] = brk;
+    put_seal(&mut words);
+    words
 }
 
 const CODE: Option<Rights> = Some(Rights::Code);
 
 const VALUES: Option<Rights> = Some(Rights::Values);
 
-const SHAPES: [Shape; 7] = [
-    Shape {
-        state: 1,
-        code_pages: 2,
-        data_pages: 3,
-        brk: 4097,
-        pages: 11,
-        regions: &[
-            (0, None),
+// State, pages and break of a process, how many pages it has, and pages with their rights.
+const SHAPES: [([u32; 4], u32, &[(u32, Option<Rights>)]); 5] = [
+    (
+        [1, 2, 3, 4097],
+        11,
+        &[
             (15, None),
             (16, CODE),
             (17, CODE),
             (18, VALUES),
-            (20, VALUES),
-            (21, VALUES),
             (22, VALUES),
             (23, None),
             (0x7_fffb, None),
             (0x7_fffc, VALUES),
-            (0x7_fffd, VALUES),
-            (0x7_fffe, VALUES),
             (0x7_ffff, VALUES),
             (0x8_0000, None),
-            (0xf_ffff, None),
         ],
-    },
-    // No data and no heap: the page behind the code is none.
-    Shape {
-        state: 2,
-        code_pages: 1,
-        data_pages: 0,
-        brk: 0,
-        pages: 5,
-        regions: &[(15, None), (16, CODE), (17, None), (0x7_fffc, VALUES)],
-    },
-    // A break of one byte makes a page of heap, and one of a whole page no more.
-    Shape {
-        state: 1,
-        code_pages: 1,
-        data_pages: 0,
-        brk: 1,
-        pages: 6,
-        regions: &[(17, VALUES), (18, None)],
-    },
-    Shape {
-        state: 1,
-        code_pages: 1,
-        data_pages: 0,
-        brk: 4096,
-        pages: 6,
-        regions: &[(17, VALUES), (18, None)],
-    },
-    // The most code and data, and a heap up to 0x400000.
-    Shape {
-        state: 1,
-        code_pages: 64,
-        data_pages: 64,
-        brk: 0x37_0000,
-        pages: 1012,
-        regions: &[
-            (79, CODE),
-            (80, VALUES),
-            (143, VALUES),
-            (144, VALUES),
-            (1023, VALUES),
-            (1024, None),
-        ],
-    },
-    // A free slot, and a process that has ended.
-    Shape {
-        state: 0,
-        code_pages: 0,
-        data_pages: 0,
-        brk: 0,
-        pages: 0,
-        regions: &[(15, None), (16, None), (0x7_fffc, None), (0x7_ffff, None)],
-    },
-    Shape {
-        state: 3,
-        code_pages: 0,
-        data_pages: 0,
-        brk: 0,
-        pages: 0,
-        regions: &[(15, None), (16, None), (0x7_fffc, None), (0x7_ffff, None)],
-    },
+    ),
+    ([2, 1, 0, 0], 5, &[(16, CODE), (17, None)]),
+    ([1, 1, 0, 4096], 6, &[(17, VALUES), (18, None)]),
+    (
+        [1, 64, 64, 0x37_0000],
+        1012,
+        &[(79, CODE), (80, VALUES), (1023, VALUES), (1024, None)],
+    ),
+    ([3, 0, 0, 0], 0, &[(16, None), (0x7_fffc, None)]),
 ];
 
 #[test]
 fn regions_of_processes(rt: HostRuntime) {
-    for shape in &SHAPES {
-        let numbers = [
-            (1, shape.state),
-            (2, shape.state.min(1)),
-            (6, shape.code_pages),
-            (7, shape.data_pages),
-            (8, shape.brk),
-        ];
-        let Some(rec) = process(&numbers) else {
-            panic!(rt; "no record of state {}", shape.state);
+    for ([state, code_pages, data_pages, brk], count, regions) in SHAPES {
+        let Some(rec) = ProcRec::from_words(&process(state, code_pages, data_pages, brk)) else {
+            panic!(rt; "no record of state {state}");
         };
-        assert_eq!(rt; pages(&rec), shape.pages);
-        for (page, want) in shape.regions {
+        assert_eq!(rt; pages(&rec), count);
+        for (page, want) in regions {
             let page = *page % 0x10_0000;
-            assert_eq!(rt;
-                region(&rec, page),
-                *want,
-                "page {page:x} of {}",
-                shape.pages
-            );
+            assert_eq!(rt; region(&rec, page), *want, "page {page:x} of {count}");
         }
+    }
+}
+
+// Memory with the 64 frames of the area and no other.
+#[derive(Drop)]
+struct Memory {
+    words: Vec<u32>,
+}
+
+impl Memory {
+    // Slot 2 has a process of two pages of code, one of data, two of heap and four of stack, and of its tables one word
+    // of the root and one entry are not 0; user frame 5 has an owner.
+    fn new(alloc: Global, [page, root, entry, owner]: [u32; 4]) -> Result<Memory, AllocError> {
+        let mut words = vec![in alloc; 0u32; 65536]?;
+        words[1280..1408].copy_from_slice(&process(1, 2, 1, 4097));
+        words[10245] = owner;
+        words[22 * 1024 + (page / 1024 % 1024) as usize] = root;
+        let table = if page < 1024 { 23 } else { 24 };
+        words[table * 1024 + (page % 1024) as usize] = entry;
+        Ok(Memory { words })
+    }
+}
+
+impl WordSource for Memory {
+    ghost use Rattle.std.specs.Prelude.{◌+◌, ◌-◌, ◌*◌, ◌||◌, nat_lt, not, if◌then◌else◌, slice_index, Some, None};
+
+    ghost words = { λ m frame place.
+        if nat_lt frame 1 || not (nat_lt frame 65) then None else Some (slice_index m.words.items (1024 * (frame - 1) + place)) };
+
+    fn load(&self, frame: u32, word: u32) -> Option<u32> {
+        if frame < 1 || frame >= 65 {
+            return None;
+        }
+        Some(
+            self.words
+                .get((1024 * (frame - 1) + word) as usize)
+                .copied()
+                .unwrap_or(0),
+        )
     }
 }
 
@@ -140,102 +121,44 @@ const HIGH: u32 = 0x6401;
 const FOUND: Option<u32> = Some(134);
 
 // What is held for a page: its number, the word of the root, the entry and the owner's word; and the frame that it gives.
-// The process has pages 16 and 17 of code, 18 of data, 19 and 20 of heap, and four of stack.
-const CASES: [(&str, [u32; 4], Option<u32>); 32] = [
-    ("first of code", [16, LOW, 0x2_185b, 0x30_0010], FOUND),
-    ("last of code", [17, LOW, 0x2_185b, 0x30_0011], FOUND),
-    ("data", [18, LOW, 0x2_18d7, 0x30_0012], FOUND),
-    ("last of heap", [20, LOW, 0x2_18d7, 0x30_0014], FOUND),
-    (
-        "first of stack",
-        [0x7_fffc, HIGH, 0x2_18d7, 0x37_fffc],
-        FOUND,
-    ),
-    (
-        "last of stack",
-        [0x7_ffff, HIGH, 0x2_18d7, 0x37_ffff],
-        FOUND,
-    ),
+const CASES: [([u32; 4], Option<u32>); 20] = [
+    ([16, LOW, 0x2_185b, 0x30_0010], FOUND),
+    ([18, LOW, 0x2_18d7, 0x30_0012], FOUND),
+    ([0x7_ffff, HIGH, 0x2_18d7, 0x37_ffff], FOUND),
     // Pages that the regions do not hold.
-    ("before code", [15, LOW, 0x2_185b, 0x30_000f], None),
-    ("behind heap", [21, LOW, 0x2_18d7, 0x30_0015], None),
-    ("before stack", [0x7_fffb, HIGH, 0x2_18d7, 0x37_fffb], None),
-    ("behind stack", [0x8_0000, HIGH, 0x2_18d7, 0x38_0000], None),
-    // The owner is another.
-    ("no owner", [16, LOW, 0x2_185b, 0], None),
-    ("slot before", [16, LOW, 0x2_185b, 0x20_0010], None),
-    ("slot behind", [16, LOW, 0x2_185b, 0x40_0010], None),
-    ("page before", [17, LOW, 0x2_185b, 0x30_0010], None),
-    ("page behind", [16, LOW, 0x2_185b, 0x30_0011], None),
+    ([15, LOW, 0x2_185b, 0x30_000f], None),
+    ([21, LOW, 0x2_18d7, 0x30_0015], None),
+    ([0x8_0000, HIGH, 0x2_18d7, 0x38_0000], None),
+    // The owner is none, the slot behind, or the page behind.
+    ([16, LOW, 0x2_185b, 0], None),
+    ([16, LOW, 0x2_185b, 0x40_0010], None),
+    ([16, LOW, 0x2_185b, 0x30_0011], None),
     // The entry is not exactly the leaf of the page's rights.
-    ("no entry", [16, LOW, 0, 0x30_0010], None),
-    ("code as values", [16, LOW, 0x2_18d7, 0x30_0010], None),
-    ("values as code", [18, LOW, 0x2_185b, 0x30_0012], None),
-    ("writable code", [16, LOW, 0x2_185f, 0x30_0010], None),
-    ("values not dirty", [18, LOW, 0x2_1857, 0x30_0012], None),
-    ("not accessed", [16, LOW, 0x2_181b, 0x30_0010], None),
-    ("not valid", [16, LOW, 0x2_185a, 0x30_0010], None),
-    ("global", [16, LOW, 0x2_187b, 0x30_0010], None),
-    ("a bit for software", [16, LOW, 0x2_195b, 0x30_0010], None),
-    ("another such bit", [18, LOW, 0x2_1ad7, 0x30_0012], None),
-    // The frame is another: the one before, one below the user frames, and the last that an entry can name.
-    ("frame before", [16, LOW, 0x2_145b, 0x30_0010], None),
-    ("frame below the pool", [16, LOW, 0x2_005b, 0x30_0010], None),
-    ("last frame of all", [16, LOW, 0xffff_fc5b, 0x30_0010], None),
+    ([16, LOW, 0x2_18d7, 0x30_0010], None),
+    ([18, LOW, 0x2_185b, 0x30_0012], None),
+    ([18, LOW, 0x2_1857, 0x30_0012], None),
+    ([16, LOW, 0x2_185a, 0x30_0010], None),
+    ([16, LOW, 0x2_195b, 0x30_0010], None),
+    // The frame is one below the user frames, and the last that an entry can name.
+    ([16, LOW, 0x2_005b, 0x30_0010], None),
+    ([16, LOW, 0xffff_fc5b, 0x30_0010], None),
     // The root does not lead to the table.
-    ("no table", [16, 0, 0x2_185b, 0x30_0010], None),
-    ("table behind", [16, HIGH, 0x2_185b, 0x30_0010], None),
-    ("table not valid", [16, 0x6000, 0x2_185b, 0x30_0010], None),
-    (
-        "table as a leaf",
-        [0x7_fffc, 0x6403, 0x2_18d7, 0x37_fffc],
-        None,
-    ),
+    ([16, HIGH, 0x2_185b, 0x30_0010], None),
+    ([16, 0x6000, 0x2_185b, 0x30_0010], None),
+    ([0x7_fffc, 0x6403, 0x2_18d7, 0x37_fffc], None),
+    ([0x7_fffc, LOW, 0x2_18d7, 0x37_fffc], None),
 ];
 
 #[test]
-fn frames_of_pages(rt: HostRuntime) {
-    let numbers = [(1, 1), (2, 7), (6, 2), (7, 1), (8, 4097)];
-    for (name, [page, root, entry, owner], frame) in CASES {
-        let page = page % 0x10_0000;
-        let view = View {
-            process: runner(process(&numbers)),
-            page,
-            root,
-            entry,
-            owner,
-        };
-        assert_eq!(rt; page_frame(&view, SLOT, page), frame, "{name}");
+fn frames_of_pages(rt: HostRuntime) -> Result<(), Fail> {
+    for (words, frame) in CASES {
+        let memory = Memory::new(rt.alloc(), words)?;
+        let view = AreaView::new(&memory, MAP);
+        let page = words[0] % 0x10_0000;
+        assert_eq!(rt; page_frame(&view, 2, page), frame, "{words:?}");
         // Another slot has no such page.
-        assert_eq!(rt; page_frame(&view, SLOT + 1, page), None);
+        assert_eq!(rt; page_frame(&view, 3, page), None);
     }
-}
-
-// Where the record does not decode no page has a frame.
-#[test]
-fn frames_of_no_process(rt: HostRuntime) {
-    for code_pages in [0, 1] {
-        let numbers = [(1, 1), (2, 7), (6, code_pages)];
-        let frame = (code_pages == 1).then_some(134);
-        let view = View {
-            process: runner(process(&numbers)),
-            page: 16,
-            root: LOW,
-            entry: 0x2_185b,
-            owner: claim_word(SLOT, 16),
-        };
-        assert_eq!(rt; page_frame(&view, SLOT, 16), frame);
-    }
-}
-
-#[test]
-fn owner_words(rt: HostRuntime) {
-    let table = [
-        (0, 0, 0x10_0000),
-        (2, 16, 0x30_0010),
-        (15, 0xf_ffff, 0x10f_ffff),
-    ];
-    for (slot, page, word) in table {
-        assert_eq!(rt; claim_word(slot % 16, page % 0x10_0000), word);
-    }
+    assert_eq!(rt; claim_word(15, 0xf_ffff), 0x10f_ffff);
+    Ok(())
 }

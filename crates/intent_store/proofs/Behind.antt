@@ -16,7 +16,7 @@ use Rattle.record_layouts.specs.Head.{head_in}
 use Rattle.record_layouts.specs.Proc.{proc_in}
 use Rattle.record_layouts.specs.Sig.{sig_in}
 use Rattle.record_layouts.specs.Desc.{desc_in}
-use Rattle.record_layouts.specs.File.{file_in}
+use Rattle.record_layouts.specs.File.{file_on_disk}
 use Rattle.record_layouts.specs.Cache.{cache_in}
 use Rattle.record_layouts.specs.Term.{term_in}
 use Rattle.record_layouts.specs.Row.{row_in}
@@ -44,7 +44,7 @@ module _ (some other : Area) (same : (number : ℕ) → number < 65536 → some 
     procs = λ i. same_read proc_in (λ k. id.Proc k) (λ k. nat_lt k 16) (λ k holds. let less = ltb-true k 16 holds in omega arith) i j;
     sigs = λ i. same_read sig_in (λ k. id.Sig k) (λ k. nat_lt k 16) (λ k holds. let less = ltb-true k 16 holds in omega arith) i j;
     descs = λ i. same_read desc_in (λ k. id.Desc k) (λ k. nat_lt k 32) (λ k holds. let less = ltb-true k 32 holds in omega arith) i j;
-    files = λ i. same_read file_in (λ k. id.File k) (λ k. nat_lt k 32) (λ k holds. let less = ltb-true k 32 holds in omega arith) i j;
+    files = λ i. same_read (file_on_disk map.sectors) (λ k. id.File k) (λ k. nat_lt k 32) (λ k holds. let less = ltb-true k 32 holds in omega arith) i j;
     caches = λ i. same_read cache_in (λ k. id.Cache k) (λ k. nat_lt k 64) (λ k holds. let less = ltb-true k 64 holds in omega arith) i j;
     terms = λ i. same_read term_in (λ k. id.Term k) (λ k. nat_lt k 2) (λ k holds. let less = ltb-true k 2 holds in omega arith) i j;
     rows = λ i. same_read row_in (λ k. id.Row k) (λ k. nat_lt k 48) (λ k holds. let less = ltb-true k 48 holds in omega arith) i j;

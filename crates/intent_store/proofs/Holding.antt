@@ -1,5 +1,5 @@
 -- What a plant holds after stores.
-use Rattle.std.proofs.Common.{◌≡◌, ℕ, ◌+◌, ◌*◌, ◌<◌, ◌≤◌, Bool, true, false, if◌then◌else◌, List, [], ◌∷◌, Option, None, is_some, refl, ap, subst, ◌∙◌, ◌⊎◌, arith, inl, inr}
+use Rattle.std.proofs.Common.{◌≡◌, ℕ, ◌+◌, ◌*◌, ◌<◌, ◌≤◌, Bool, true, false, if◌then◌else◌, List, [], ◌∷◌, All, Option, None, is_some, refl, ap, subst, ◌∙◌, ◌⊎◌, arith, inl, inr}
 use Rattle.std.proofs.lemmas.Bool.Decides.{nat_tests}
 use Rattle.ow_base.specs.declared.machine.AreaId.{AreaId}
 use Rattle.ow_base.specs.declared.machine.AreaId.TheVariants.{A, B}
@@ -14,7 +14,7 @@ use Rattle.record_layouts.specs.declared.patch.PatchItem.{PatchItem}
 use Rattle.record_layouts.specs.declared.places.RecordId.{RecordId}
 use Rattle.record_layouts.specs.declared.places.RecordId.TheVariants as id
 use Rattle.record_layouts.specs.declared.head.HeadRec.{HeadRec}
-use Rattle.record_layouts.specs.Held.{Held, Records, beside, patched, with_items, with_record}
+use Rattle.record_layouts.specs.Held.{Held, Records, SectorsAre, beside, patched, with_items, with_record}
 use Rattle.record_layouts.specs.Overlay.{HasArea, area_at}
 use Rattle.record_layouts.specs.Reading.{is_readable_gate, records_in, records_of}
 use Rattle.intent_store.specs.Blocks.{IsSeenAs, IsSeenSet, seen}
@@ -85,10 +85,10 @@ module _ (old new : PlantState) (rest : rest_of new ≡ rest_of old) (same : bes
   unfolding records_of records_in
   held_as like = λ i. record { records = records_as like i; contents = beside_same i; disk = []; rest = rest i }
 
-  module _ (items : List PatchItem) (few : old.shape.user_frames ≤ 384) (set : IsSeenSet items (area_at (words_of old.memory) (map_of old).area_base) (area_at (words_of new.memory) (map_of old).area_base)) where
+  module _ (items : List PatchItem) (few : old.shape.user_frames ≤ 384) (on_disk : All (λ (item : PatchItem). SectorsAre (records_held old).map.sectors item.rec) items) (set : IsSeenSet items (area_at (words_of old.memory) (map_of old).area_base) (area_at (words_of new.memory) (map_of old).area_base)) where
     records_set_by : records_held new ≡ with_items (records_held old) items
-    unfolding records_of
-    records_set_by = records_seen ∙ set.set (map_of old) few
+    unfolding records_of records_in
+    records_set_by = records_seen ∙ set.set (map_of old) few on_disk
 
     pub held_set : held_of new ≡ patched items (held_of old)
     unfolding records_of records_in
@@ -124,8 +124,8 @@ module _ (old new : PlantState) (base : ℕ) (is : base ≡ (map_of old).area_ba
   pub committed_as : IsSeenAs (area_at (words_of old.memory) base) (area_at (words_of new.memory) base) → held_of new ≡ held_of old
   committed_as like = held_as old new rest at_base (subst (λ b. IsSeenAs (area_at (words_of old.memory) b) (area_at (words_of new.memory) b)) is like)
 
-  pub committed_set : (items : List PatchItem) → old.shape.user_frames ≤ 384 → IsSeenSet items (area_at (words_of old.memory) base) (area_at (words_of new.memory) base) → held_of new ≡ patched items (held_of old)
-  committed_set items few set = held_set old new rest at_base items few (subst (λ b. IsSeenSet items (area_at (words_of old.memory) b) (area_at (words_of new.memory) b)) is set)
+  pub committed_set : (items : List PatchItem) → old.shape.user_frames ≤ 384 → All (λ (item : PatchItem). SectorsAre (records_held old).map.sectors item.rec) items → IsSeenSet items (area_at (words_of old.memory) base) (area_at (words_of new.memory) base) → held_of new ≡ patched items (held_of old)
+  committed_set items few on_disk set = held_set old new rest at_base items few on_disk (subst (λ b. IsSeenSet items (area_at (words_of old.memory) b) (area_at (words_of new.memory) b)) is set)
 
 pub held_either : (old new : PlantState) (items : List PatchItem) → IsStanding old → (held_of new ≡ held_of old) ⊎ (held_of new ≡ patched items (held_of old)) → IsStanding new
 held_either old new items stands (inl same) = standing_held old new stands same

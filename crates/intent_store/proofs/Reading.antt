@@ -69,8 +69,8 @@ module _ (area : Area) (items : List PatchItem) (payload : List ℕ) (shut : are
 
   pub seen-opened : (new : Area) → new ≡ opened area payload → IsSeenSet items area new
   seen-opened new e = record {
-    set = λ map room. rw e (rw gate-opened (records-same (overlay (opened area payload)) (λ n. laid is.ranges n (area n)) opened-laid map true
-        ∙ patch_sets map room area is.ranges items patch is.sets
+    set = λ map room on_disk. rw e (rw gate-opened (records-same (overlay (opened area payload)) (λ n. laid is.ranges n (area n)) opened-laid map true
+        ∙ patch_sets map room area is.ranges items patch on_disk is.sets
         ∙ ap (λ (r : Records). with_items r items) (sym (shut-seen map area shut))));
   }
 
@@ -78,10 +78,10 @@ module _ (area : Area) (items : List PatchItem) (payload : List ℕ) (shut : are
   readable-opened new e = rw (e, gate-opened) refl
 
 pub set-after : (items : List PatchItem) (old middle new : Area) → IsSeenAs old middle → IsSeenSet items middle new → IsSeenSet items old new
-set-after items old middle new first second = record { set = λ map room. second.set map room ∙ ap (λ (r : Records). with_items r items) (first.same map) }
+set-after items old middle new first second = record { set = λ map room on_disk. second.set map room on_disk ∙ ap (λ (r : Records). with_items r items) (first.same map) }
 
 pub set-before : (items : List PatchItem) (old middle new : Area) → IsSeenSet items old middle → IsSeenAs middle new → IsSeenSet items old new
-set-before items old middle new first second = record { set = λ map room. second.same map ∙ first.set map room }
+set-before items old middle new first second = record { set = λ map room on_disk. second.same map ∙ first.set map room on_disk }
 
 -- no record is set by a payload of no word
 no_item : (ranges : List WordRange) (items : List PatchItem) (r : Records) → AreSpelled ranges items → length (payload_of ranges) ≡ 0 → with_items r items ≡ r
@@ -93,7 +93,7 @@ no_item (w ∷ ranges) (i ∷ items) r are none = absurd (omega arith)
 
 pub set-none : (items : List PatchItem) (payload : List ℕ) (old new : Area) → IsPayload items payload → length payload ≡ 0 → IsSeenAs old new → IsSeenSet items old new
 set-none items payload old new is none seen_as = record {
-  set = λ map room. seen_as.same map ∙ sym (no_item is.ranges items (seen map old) is.sets (sym (ap (λ (ws : List ℕ). length ws) is.spelled) ∙ none));
+  set = λ map room on_disk. seen_as.same map ∙ sym (no_item is.ranges items (seen map old) is.sets (sym (ap (λ (ws : List ℕ). length ws) is.spelled) ∙ none));
 }
 
 pub rolled-gate : (old new : Area) → new ≡ rolled old → new gate_word ≡ 0

@@ -1,11 +1,11 @@
 -- What becomes of an area while an intent in its block is opened, carried out and closed.
-use Rattle.std.specs.Prelude.{◌≡◌, ℕ, ◌+◌, ◌-◌, ◌≤◌, Bool, false, if◌then◌else◌, List, ◌∷◌, length, slice_index}
+use Rattle.std.specs.Prelude.{◌≡◌, ℕ, ◌+◌, ◌-◌, ◌≤◌, Bool, false, if◌then◌else◌, List, ◌∷◌, length, slice_index, All}
 use Rattle.ow_base.specs.Seals.{seal_from}
 use Rattle.ow_base.specs.Words.{updated}
 use Rattle.record_layouts.specs.declared.intent.Change.{Change}
 use Rattle.record_layouts.specs.declared.memory_map.MemoryMap.{MemoryMap}
 use Rattle.record_layouts.specs.declared.patch.PatchItem.{PatchItem}
-use Rattle.record_layouts.specs.Held.{Records, with_items}
+use Rattle.record_layouts.specs.Held.{Records, SectorsAre, with_items}
 use Rattle.record_layouts.specs.Overlay.{Area, gate_of, gate_word, payload_word, seal_word, intent_kind, lies_in, overlay}
 use Rattle.record_layouts.specs.Reading.{is_readable_gate, records_in}
 
@@ -58,6 +58,7 @@ rolled area = updated (overlay area) gate_word 0
 pub record IsSeenAs (old new : Area) : Type 0 where
   pub same : (map : MemoryMap) → seen map new ≡ seen map old
 
--- the records of a patch are set
+-- the records of a patch are set, where the data sectors of its files are on the disk
 pub record IsSeenSet (items : List PatchItem) (old new : Area) : Type 0 where
-  pub set : (map : MemoryMap) → map.user_frames ≤ 384 → seen map new ≡ with_items (seen map old) items
+  pub set : (map : MemoryMap) → map.user_frames ≤ 384 → All (λ (item : PatchItem). SectorsAre map.sectors item.rec) items
+      → seen map new ≡ with_items (seen map old) items

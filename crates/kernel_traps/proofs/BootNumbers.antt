@@ -12,9 +12,8 @@ use Rattle.record_layouts.specs.declared.sig.SigRec.{SigRec}
 use Rattle.record_layouts.specs.Decode.{next_by, slot_by}
 use Rattle.record_layouts.specs.Held.{Records}
 use Rattle.record_layouts.specs.Pages.{is_live}
-use Rattle.record_layouts.specs.Sound.{AreInCalls, AreNumbered, IsIn, is_used}
+use Rattle.record_layouts.specs.Sound.{AreInCalls, AreNumbered, AreOnTerminals, IsIn, is_used}
 use Rattle.record_layouts.specs.Spelling.{lies_between}
-use Rattle.syscalls.specs.Serving.{AreOnTerminals}
 use Rattle.kernel_traps.specs.Boot.{IsBootable, program_in}
 use Rattle.kernel_traps.specs.BootRecords.{booted_description, booted_exit, booted_process, booted_signals, description_for, free_process, started_descs, started_record}
 use Rattle.kernel_traps.specs.BootState.{IsBooted}
@@ -209,8 +208,8 @@ module _ (r : Records) (load : Load) (is : IsBootable load) (booted : IsBooted r
 
   pub are_on_terminals : AreOnTerminals r
   are_on_terminals = record {
-    each = λ i. elim (cases_lt i 32) [
-      | inl low ↦ rw (booted.descs i low) (not_file load i)
-      | inr past ↦ rw (booted.no_desc i past) tt
+    each = λ slot process inside fd low some. elim (cases_lt (slice_index process.descs fd - 1) 32) [
+      | inl there ↦ rw (booted.descs (slice_index process.descs fd - 1) there) (not_file load (slice_index process.descs fd - 1))
+      | inr past ↦ rw (booted.no_desc (slice_index process.descs fd - 1) past) tt
     ];
   }

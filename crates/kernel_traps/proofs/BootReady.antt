@@ -32,7 +32,7 @@ ready_boots shape s few ready none =
       };
       none = none;
       first = ready.no_traps;
-      able = ready.not_refused;
+      able = ready.no_refusal;
       of_area = ready.of_area;
       shut = rw ready.zeroed (area_zero shape.user_frames 1 16);
     }

@@ -9,7 +9,7 @@ use Rattle.record_layouts.specs.Proc.{FitsProc, IsBlankBank, IsOver}
 use Rattle.process_table.specs.Patches.{blank_bank}
 use Rattle.ow_base.specs.declared.worlds.Load.{Load}
 use Rattle.record_layouts.specs.File.{FitsFile}
-use Rattle.record_layouts.specs.Held.{Held, patched}
+use Rattle.record_layouts.specs.Held.{Held, SectorsAre, patched}
 use Rattle.record_layouts.specs.declared.patch.AnyRec.TheVariants as any
 use Rattle.record_layouts.specs.declared.places.RecordId.TheVariants as id
 use Rattle.record_layouts.specs.declared.proc.ProcRec.{ProcRec}
@@ -20,7 +20,7 @@ use Rattle.record_layouts.specs.declared.cache.CacheRec.{CacheRec}
 use Rattle.record_layouts.specs.declared.term.TermRec.{TermRec}
 use Rattle.record_layouts.specs.declared.row.RowRec.{RowRec}
 use Rattle.record_layouts.specs.declared.exit.ExitRec.{ExitRec}
-use Rattle.kernel_traps.specs.BootRecords.{blank_row_record, booted_description, booted_exit, booted_process, booted_signals, empty_cache, free_process, no_file, set_from, silent_record, with_blank_rows, with_descriptions, with_empty_caches, with_exits, with_no_files, with_processes, with_signals, with_silent_terminals}
+use Rattle.kernel_traps.specs.BootRecords.{blank_row_record, booted_description, booted_exit, booted_process, booted_signals, empty_entry, free_process, unused_file, set_from, silent_record, with_blank_rows, with_descriptions, with_empty_caches, with_exits, with_no_files, with_processes, with_signals, with_silent_terminals}
 
 zeros : (count : ℕ) → AreZero (replicate count 0) 0 count
 zeros count k from to = get_or-replicate count k 0 0 to
@@ -69,8 +69,12 @@ set_more first count k value old is =
     λ i j. (let e : updated (set_from first count value old) k (Some (value k)) j ≡ set_from first (count + 1) value old j = grind (arith, nat_tests) in e) i
 
 -- where there is no file, that can be spelled
-pub no_file_fits : FitsFile no_file
-no_file_fits = record {
+-- no sector of it is on the disk
+pub none_on_disk : (sectors : ℕ) (file : FileRec) → file ≡ unused_file → SectorsAre sectors (any.File file)
+none_on_disk sectors file is = rw is (All-nil (λ (sector : ℕ). sector < sectors))
+
+pub unused_file_fits : FitsFile unused_file
+unused_file_fits = record {
   state = record { known = omega arith; none = λ e. (refl, refl, refl); named = λ e. absurd (omega (arith, e)) };
   name_length = omega arith;
   past_name = zeros 24;
@@ -105,17 +109,17 @@ module _ {Rest : Type 0} (h : Held Rest) where
       rw is (ap (λ (f : ℕ → Option ExitRec). record h { records = record h.records { exits = f } })
       (set_more 1 before (before + 1) (booted_exit load) h.records.exits (omega arith)))
 
-  pub file_more : (index : ℕ) (rec : FileRec) → rec ≡ no_file
+  pub file_more : (index : ℕ) (rec : FileRec) → rec ≡ unused_file
       → patched (record { id = id.File index; rec = any.File rec } ∷ []) (with_no_files h index) ≡ with_no_files h (index + 1)
   file_more index rec is =
       rw is (ap (λ (f : ℕ → Option FileRec). record h { records = record h.records { files = f } })
-      (set_more 0 index index (λ i. no_file) h.records.files (omega arith)))
+      (set_more 0 index index (λ i. unused_file) h.records.files (omega arith)))
 
-  pub cache_more : (entry : ℕ) (rec : CacheRec) → rec ≡ empty_cache
+  pub cache_more : (entry : ℕ) (rec : CacheRec) → rec ≡ empty_entry
       → patched (record { id = id.Cache entry; rec = any.Cache rec } ∷ []) (with_empty_caches h entry) ≡ with_empty_caches h (entry + 1)
   cache_more entry rec is =
       rw is (ap (λ (f : ℕ → Option CacheRec). record h { records = record h.records { caches = f } })
-      (set_more 0 entry entry (λ i. empty_cache) h.records.caches (omega arith)))
+      (set_more 0 entry entry (λ i. empty_entry) h.records.caches (omega arith)))
 
   pub terminal_more : (tty : ℕ) (rec : TermRec) → rec ≡ silent_record tty
       → patched (record { id = id.Term tty; rec = any.Term rec } ∷ []) (with_silent_terminals h tty) ≡ with_silent_terminals h (tty + 1)

@@ -1,33 +1,31 @@
 -- A kernel that has booted is sound.
-use Rattle.std.proofs.Common.{◌≡◌, ℕ, ◌+◌, ◌*◌, ◌<◌, Bool, true, false, ◌==◌, if◌then◌else◌, [], length, is_some, refl, sym, ap, subst, ◌∙◌, arith}
+use Rattle.std.proofs.Common.{◌≡◌, ℕ, ◌+◌, ◌*◌, ◌<◌, ◌≤◌, Bool, true, false, ◌==◌, if◌then◌else◌, [], length, is_some, refl, sym, ap, subst, ◌∙◌, arith}
 use Rattle.ow_base.specs.Screen.{blank_screen, screen_of}
 use Rattle.ow_base.specs.declared.machine.Shape.{Shape}
 use Rattle.ow_base.specs.declared.worlds.Load.{Load}
 use Rattle.phys_memory.specs.Memory.{words_of}
 use Rattle.record_layouts.specs.declared.proc.ProcRec.{ProcRec}
-use Rattle.record_layouts.specs.Held.{AreComplete, AreValues, Held, Records}
+use Rattle.record_layouts.specs.Held.{AreComplete, AreValues, Records}
 use Rattle.record_layouts.specs.Pages.{is_mapped}
 use Rattle.record_layouts.specs.Sound.{AreSound, IsIn, is_table_place}
 use Rattle.record_layouts.specs.Unix.{start_of}
 use Rattle.record_layouts.specs.Values.{are_values}
 use Rattle.tty_screen.specs.Shown.{IsBlank, ShowsScreen}
-use Rattle.ow_plant.specs.State.{PlantState, IsReady, silent_terminal as silent_device, tty_of, Terminal as Device}
-use Rattle.intent_store.specs.Live.{held_of, map_of, records_held, rest_of}
+use Rattle.ow_plant.specs.State.{PlantState, silent_terminal as silent_device, tty_of, Terminal as Device}
+use Rattle.intent_store.specs.Live.{map_of, records_held, rest_of}
 use Rattle.intent_store.proofs.Holding.{shut_gate}
 use Rattle.tty_screen.proofs.ShownScreens.{blank_shows}
 use Rattle.kernel_traps.specs.Boot.{IsBootable}
-use Rattle.kernel_traps.specs.BootPages.{pages_before, with_starts}
-use Rattle.kernel_traps.specs.BootRecords.{silent_record, with_booted}
+use Rattle.kernel_traps.specs.BootPages.{pages_before}
+use Rattle.kernel_traps.specs.BootRecords.{silent_record}
 use Rattle.kernel_traps.specs.BootState.{IsBooted}
-use Rattle.kernel_traps.specs.BootStores.{IsBooting}
-use Rattle.kernel_traps.specs.Plants.{AreTerminalsSound, HasBytes, IsHeldSound, IsOfDevice, IsSound, tapes_of, unix_at}
+use Rattle.kernel_traps.specs.Plants.{AreTerminalsSound, IsHeldSound, IsOfDevice, IsSound, tapes_of, unix_at}
 use Rattle.kernel_traps.specs.Turning.{IsSameMachine}
 use Rattle.kernel_traps.proofs.BootFrames.{clean_there, is_mapped_there}
-use Rattle.kernel_traps.proofs.BootHeld.{booted, words_booted}
+use Rattle.kernel_traps.proofs.BootHeld.{IsBuilt, booted, of_shape, same_rest, words_booted}
 use Rattle.kernel_traps.proofs.BootNumbers.{are_in_calls, are_in_writes, are_numbered, are_on_terminals, in_started}
 use Rattle.kernel_traps.proofs.BootPages.{start_loadable}
 use Rattle.kernel_traps.proofs.BootStores.{booting_base}
-use Rattle.kernel_traps.proofs.BootTables.{starts_rest}
 use Rattle.kernel_traps.proofs.BootUnix.{unix_same}
 
 module _ (r : Records) (load : Load) (is : IsBootable load) (b : IsBooted r load) where
@@ -82,33 +80,29 @@ silent_sound : (r : Records) (tty room : ℕ) (device : Device) → device ≡ s
 unfolding screen_of
 silent_sound r tty room device silent shown = rw silent (record { counted = refl; base = omega arith; rows = shown; display = refl })
 
-silent_bytes : (device : Device) (steps budget : ℕ) → device ≡ silent_device (16 * budget) → HasBytes device steps budget
-silent_bytes device steps budget silent = rw silent (record { few = omega arith; room = refl })
+silent_bytes : (device : Device) (steps room : ℕ) → device ≡ silent_device room → length device.tape ≤ 16 * steps
+silent_bytes device steps room silent = rw silent (omega arith)
 
-module _ (load : Load) (old new : PlantState) (is : IsBootable load) (ready : IsReady load.shape old) (first : IsBooting old) (last : IsBooting new)
-    (held : held_of new ≡ with_starts (with_booted (held_of old) load) load (length load.starts)) where
+module _ (load : Load) (old new : PlantState) (b : IsBuilt load old new) where
   rest : rest_of new ≡ rest_of old
-  rest = ap (λ (h : Held PlantState). h.rest) held ∙ starts_rest (with_booted (held_of old) load) load (length load.starts)
-
-  of_shape : new.shape ≡ load.shape
-  of_shape = ap (λ (s : PlantState). s.shape) rest ∙ ready.of_shape
+  rest = same_rest load old new b
 
   pub no_steps : new.steps ≡ 0
-  no_steps = ap (λ (s : PlantState). s.steps) rest ∙ ready.no_steps
+  no_steps = ap (λ (s : PlantState). s.steps) rest ∙ b.ready.no_steps
 
   idle : new.in_user ≡ false
-  idle = ap (λ (s : PlantState). s.in_user) rest ∙ ready.in_kernel
+  idle = ap (λ (s : PlantState). s.in_user) rest ∙ b.ready.in_kernel
 
   outside : new.in_trap ≡ false
-  outside = ap (λ (s : PlantState). s.in_trap) rest ∙ ready.no_trap_runs
+  outside = ap (λ (s : PlantState). s.in_trap) rest ∙ b.ready.no_trap_runs
 
   device : (tty : ℕ) → tty_of new tty ≡ silent_device (16 * new.shape.budget)
   device tty =
-      let budget : load.shape.budget ≡ new.shape.budget = sym (ap (λ (s : Shape). s.budget) of_shape) in
+      let budget : load.shape.budget ≡ new.shape.budget = sym (ap (λ (s : Shape). s.budget) (of_shape load old new b)) in
       let zeroth : new.tty0 ≡ silent_device (16 * new.shape.budget) =
-      ap (λ (s : PlantState). s.tty0) rest ∙ ready.tty0 ∙ ap (λ (n : ℕ). silent_device (16 * n)) budget in
+      ap (λ (s : PlantState). s.tty0) rest ∙ b.ready.tty0 ∙ ap (λ (n : ℕ). silent_device (16 * n)) budget in
       let other : new.tty1 ≡ silent_device (16 * new.shape.budget) =
-      ap (λ (s : PlantState). s.tty1) rest ∙ ready.tty1 ∙ ap (λ (n : ℕ). silent_device (16 * n)) budget in
+      ap (λ (s : PlantState). s.tty1) rest ∙ b.ready.tty1 ∙ ap (λ (n : ℕ). silent_device (16 * n)) budget in
       which zeroth other (tty == 0)
     where
       which : new.tty0 ≡ silent_device (16 * new.shape.budget) → new.tty1 ≡ silent_device (16 * new.shape.budget) → (zeroth : Bool)
@@ -127,16 +121,16 @@ module _ (load : Load) (old new : PlantState) (is : IsBootable load) (ready : Is
       tape zeroth other false false = refl
 
   is_booted : IsBooted (records_held new) load
-  is_booted = booted load old new is ready first last held
+  is_booted = booted load old new b
 
   is_held : IsHeldSound new
   is_held = record {
-    armed = last.armed;
-    able = last.able;
-    shut = shut_gate new 1 (sym (booting_base new last)) last.shut;
-    records = are_sound (records_held new) load is is_booted (are_values (map_of new) (words_of new.memory));
-    on_terminals = are_on_terminals (records_held new) load is is_booted;
-    in_writes = are_in_writes (records_held new) load is is_booted;
+    armed = b.last.armed;
+    able = b.last.able;
+    shut = shut_gate new 1 (sym (booting_base new b.last)) b.last.shut;
+    records = are_sound (records_held new) load b.is is_booted (are_values (map_of new) (words_of new.memory));
+    on_terminals = are_on_terminals (records_held new) load b.is is_booted;
+    in_writes = are_in_writes (records_held new) load b.is is_booted;
   }
 
   are_terminals : AreTerminalsSound new new.steps
@@ -144,26 +138,25 @@ module _ (load : Load) (old new : PlantState) (is : IsBootable load) (ready : Is
     records = λ tty low.
         rw (is_booted.terms tty low)
         (silent_sound (records_held new) tty (16 * new.shape.budget) (tty_of new tty) (device tty) (blank_shows (is_blank
-        (records_held new) load is is_booted tty low)));
-    bytes = λ tty low. silent_bytes (tty_of new tty) new.steps new.shape.budget (device tty);
+        (records_held new) load b.is is_booted tty low)));
+    bytes = λ tty low. silent_bytes (tty_of new tty) new.steps (16 * new.shape.budget) (device tty);
   }
 
   pub sound_booted : IsSound new
   sound_booted = record {
     held = is_held;
     no_trap_runs = outside;
-    served = rw (is_booted.head, outside, last.first) (omega arith);
+    served = rw (is_booted.head, outside, b.last.first) (omega arith);
     terminals = are_terminals;
     budget = omega (arith, no_steps);
-    most = omega (arith, ap (λ (s : Shape). s.budget) of_shape, is.most_steps);
     in_user = λ inside. absurd (cc (inside, idle));
   }
 
   pub started_booted : unix_at new ≡ start_of load
   unfolding unix_at
   started_booted =
-      rw (idle, no_steps, last.first)
-      (unix_same (records_held new) (words_of new.memory) load is is_booted (words_booted load old new is ready first last held) (tapes_of new) silent)
+      rw (idle, no_steps, b.last.first)
+      (unix_same (records_held new) (words_of new.memory) load b.is is_booted (words_booted load old new b) (tapes_of new) silent)
 
   pub same_booted : IsSameMachine old new
   same_booted = record {

@@ -1,5 +1,5 @@
 -- What the stores of boot make of a plant.
-use Rattle.std.proofs.Common.{◌≡◌, ℕ, ◌+◌, ◌*◌, ◌/◌, ◌%◌, ◌<◌, ◌≤◌, false, true, ◌==◌, List, [], ◌∷◌, All, length, slice_index, refl, sym, ap, ◌∙◌, arith, rules}
+use Rattle.std.proofs.Common.{◌≡◌, ℕ, ◌+◌, ◌*◌, ◌/◌, ◌%◌, ◌<◌, ◌≤◌, false, true, ◌==◌, List, [], ◌∷◌, All, None, length, slice_index, refl, sym, ap, ◌∙◌, arith, rules}
 use Rattle.std.proofs.lemmas.Bool.Decides.{nat_tests}
 use Rattle.std.proofs.lemmas.List.Elements.{All-cons, All-nil, All-weaker}
 use Rattle.std.proofs.lemmas.List.Folds.{list_any_none}
@@ -8,7 +8,7 @@ use Rattle.ow_base.specs.Words.{updated}
 use Rattle.phys_memory.specs.Memory.{words_of, frame_count}
 use Rattle.phys_memory.proofs.Words.{frame_count-sized}
 use Rattle.record_layouts.specs.Overlay.{Area, area_at, may_change, WordRange, gate_word, laid}
-use Rattle.record_layouts.specs.Held.{Records, beside, is_direct, patched, stored, with_items}
+use Rattle.record_layouts.specs.Held.{Records, SectorsAre, beside, is_direct, patched, stored, with_items}
 use Rattle.record_layouts.specs.Patch.{IsPatch, IsPatchItem}
 use Rattle.record_layouts.specs.Reading.{records_in, records_of}
 use Rattle.record_layouts.specs.Seam.{AreSpelled}
@@ -39,7 +39,7 @@ refuses_none s is =
     rw (is.able, is.first) (list_any_none (is_past 0 s.stores) s.points late)
 
 -- a plant boots on where nothing changes but words that are not the gate
-pub booting_on : (old new : PlantState) → IsBooting old → rest_of new ≡ rest_of old → new.refused ≡ false
+pub booting_on : (old new : PlantState) → IsBooting old → rest_of new ≡ rest_of old → new.refusal ≡ None
     → area_at (words_of new.memory) 1 16 ≡ area_at (words_of old.memory) 1 16 → IsBooting new
 booting_on old new is rest able same = record {
   armed = armed_by_rest old new rest is.armed;
@@ -72,7 +72,7 @@ pub record IsStored (old new : PlantState) (number value : ℕ) : Type 0 where
   pub area : area_at (words_of new.memory) 1 ≡ updated (area_at (words_of old.memory) 1) number value
   pub same_beside : beside 1 (words_of new.memory) ≡ beside 1 (words_of old.memory)
   pub same_rest : rest_of new ≡ rest_of old
-  pub able : new.refused ≡ false
+  pub able : new.refusal ≡ None
 
 pub stored_once : (old new : PlantState) (number value : ℕ) → IsBooting old → number < 65536
     → new ≡ with_stored old (1 + number / 1024) (number % 1024) value → IsStored old new number value
@@ -85,7 +85,7 @@ stored_once old new number value is low e =
       area = ap (λ (w : WordMap). area_at w 1) words ∙ area_at-set (words_of old.memory) 1 number value;
       same_beside = ap (λ (w : WordMap). beside 1 w) words ∙ beside-set (words_of old.memory) 1 number value low;
       same_rest = ap rest_of e ∙ rest_stored old (1 + number / 1024) (number % 1024) value;
-      able = ap (λ (s : PlantState). s.refused) e ∙ is.able;
+      able = ap (λ (s : PlantState). s.refusal) e ∙ is.able;
     }
 
 -- a word of a record is not the gate
@@ -109,6 +109,11 @@ records_shut s map is base =
     let at : area_at (words_of s.memory) map.area_base ≡ area_at (words_of s.memory) 1 = ap (λ (b : ℕ). area_at (words_of s.memory) b) base in
     records_closed map (words_of s.memory) (ap (λ (a : Area). a gate_word) at ∙ is.shut) ∙ ap (λ (a : Area). records_in map true a) at
 
+-- one record whose sectors are on the disk
+one_on_disk : (sectors : ℕ) (item : PatchItem) → SectorsAre sectors item.rec → All (λ (item : PatchItem). SectorsAre sectors item.rec) (item ∷ [])
+one_on_disk sectors item is =
+    All-cons (λ (item : PatchItem). SectorsAre sectors item.rec) item [] is (All-nil (λ (item : PatchItem). SectorsAre sectors item.rec))
+
 -- words that are stored are laid over the area
 words_laid : (area : Area) (range : WordRange)
     → with_first_words area (1024 * range.frame + range.first) (length range.words) range.words ≡ (λ number. laid (range ∷ []) number (area number))
@@ -116,6 +121,7 @@ unfolding with_first_words laid
 words_laid area range = refl
 
 module _ (old new : PlantState) (range : WordRange) (item : PatchItem) (is : IsBooting old) (still : IsBooting new) (fits : IsPatch (item ∷ []))
+    (on_disk : SectorsAre old.shape.sectors item.rec)
     (spelled : AreSpelled (range ∷ []) (item ∷ []))
     (words : area_at (words_of new.memory) 1 ≡ with_first_words (area_at (words_of old.memory) 1) (1024 * range.frame + range.first)
     (length range.words) range.words)
@@ -128,7 +134,7 @@ module _ (old new : PlantState) (range : WordRange) (item : PatchItem) (is : IsB
       ap (λ (m : MemoryMap). records_of m (words_of new.memory)) (map_same old new rest)
       ∙ records_shut new map still base
       ∙ ap (λ (a : Area). records_in map true a) (words ∙ words_laid area range)
-      ∙ patch_sets map is.armed.few_frames area (range ∷ []) (item ∷ []) fits spelled
+      ∙ patch_sets map is.armed.few_frames area (range ∷ []) (item ∷ []) fits (one_on_disk map.sectors item on_disk) spelled
       ∙ ap (λ (r : Records). with_items r (item ∷ [])) (sym (records_shut old map is base))
 
   contents_same : beside (map_of new).area_base (words_of new.memory) ≡ beside (map_of old).area_base (words_of old.memory)
@@ -158,7 +164,7 @@ gate_beside words frame word value direct = grind (arith, nat_tests)
 pub word_boots : (old new : PlantState) (frame word value : ℕ) → IsBooting old → is_direct 1 frame ≡ true → word < 1024
     → frame < frame_count old.memory → new ≡ with_stored old frame word value → IsBooting new
 word_boots old new frame word value is direct low there e =
-    booting_on old new is (ap rest_of e ∙ rest_stored old frame word value) (ap (λ (s : PlantState). s.refused) e ∙ is.able)
+    booting_on old new is (ap rest_of e ∙ rest_stored old frame word value) (ap (λ (s : PlantState). s.refusal) e ∙ is.able)
     (ap (λ (s : PlantState). area_at (words_of s.memory) 1 16) e
     ∙ ap (λ (w : WordMap). area_at w 1 16) (words_stored old.memory frame word value there low)
     ∙ gate_beside (words_of old.memory) frame word value direct)

@@ -1,9 +1,9 @@
 -- The tables and the owners after all programs have started.
-use Rattle.std.proofs.Common.{◌≡◌, ◌≢◌, ℕ, zero, suc, ◌+◌, ◌*◌, ◌<◌, ◌≤◌, false, ◌==◌, List, length, Option, Some, None, refl, ap, ◌∙◌, inl, inr, arith}
+use Rattle.std.proofs.Common.{◌≡◌, ◌≢◌, ℕ, zero, suc, ◌+◌, ◌*◌, ◌<◌, ◌≤◌, false, ◌==◌, List, length, Option, Some, None, add-one, refl, ap, ◌∙◌, inl, inr, arith}
 use Rattle.std.proofs.lemmas.Bool.{cases_lt}
 use Rattle.std.proofs.lemmas.Bool.Decides.{nat_tests}
 use Rattle.ow_base.specs.Entries.{leaf_word}
-use Rattle.ow_base.specs.World.{page_count}
+use Rattle.ow_base.specs.World.{page_count, started_page_count}
 use Rattle.ow_base.specs.declared.worlds.Load.{Load}
 use Rattle.ow_base.specs.declared.worlds.Program.{Program}
 use Rattle.record_layouts.specs.Unix.{is_within}
@@ -12,7 +12,7 @@ use Rattle.record_layouts.specs.Pages.{claim_of}
 use Rattle.kernel_traps.specs.Boot.{IsBootable, program_in}
 use Rattle.kernel_traps.specs.BootPages.{pages_before, with_frame_words, with_leaves, with_start, with_starts}
 use Rattle.kernel_traps.specs.BootTables.{HasTables, low_rights}
-use Rattle.kernel_traps.proofs.BootPages.{pages_more, pages_rise, start_loadable}
+use Rattle.kernel_traps.proofs.BootPages.{pages_more, pages_rise, start_loadable, start_there}
 
 -- a start sets words of tables and owners, and no record
 start_records : {Rest : Type 0} (h : Held Rest) (slot frame : ℕ) (program : Option Program)
@@ -45,6 +45,24 @@ earlier_frame : {Rest : Type 0} (h : Held Rest) (slot frame : ℕ) (program : Op
 unfolding with_leaves with_frame_words
 earlier_frame h slot frame (Some program) i low = grind (arith, nat_tests)
 earlier_frame h slot frame None i low = refl
+
+-- and those of frames behind its last page
+later_frame : {Rest : Type 0} (h : Held Rest) (slot frame : ℕ) (program : Program) (i : ℕ) → frame + started_page_count program ≤ i
+    → (with_start h slot frame (Some program)).records.owners i ≡ h.records.owners i
+unfolding with_leaves with_frame_words
+later_frame h slot frame program i past = grind (arith, nat_tests)
+
+-- the owners of frames behind the pages of these starts
+pub later_owners : {Rest : Type 0} (h : Held Rest) (load : Load) → IsBootable load → (count i : ℕ) → count ≤ length load.starts
+    → pages_before load count ≤ i → (with_starts h load count).records.owners i ≡ h.records.owners i
+unfolding with_starts
+later_owners h load is zero i within past = refl
+later_owners h load is (suc n) i within past =
+    let (program, found, loadable) = start_there load n is (omega arith) in
+    let more = rw add-one at (pages_more load n program (omega arith) found) in
+    let here : (with_start (with_starts h load n) n (pages_before load n) (program_in load n)).records.owners i ≡ (with_starts h load n).records.owners i =
+    rw found (later_frame (with_starts h load n) n (pages_before load n) program i (omega (arith, more, past))) in
+    here ∙ later_owners h load is n i (omega arith) (omega (arith, more, past))
 
 -- the tables of slots that come later
 pub later_tables : {Rest : Type 0} (h : Held Rest) (load : Load) (count s t w : ℕ) → count ≤ s

@@ -41,7 +41,6 @@ world_boots text world is = record {
   programs = texts_all IsProgram IsLoadable loadable is.programs_text world.load.programs is.programs;
   frames = is.frames;
   most_frames = is.shape.most_frames;
-  most_steps = is.shape.most_steps;
 }
 
 -- a plant that is armed with points has none at boot

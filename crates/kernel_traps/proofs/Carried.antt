@@ -1,9 +1,8 @@
 -- Once a service is carried out the plant is sound again as the trap is left.
-use Rattle.std.proofs.Common.{◌≡◌, ◌≢◌, ◌==◌, ◌+◌, ◌^◌, ◌<◌, ◌≤◌, ℕ, zero, suc, false, List, length, Option, Some, IfSome, inl, inr, refl, sym, ap, subst, ◌∙◌, arith}
+use Rattle.std.proofs.Common.{◌≡◌, ◌==◌, ◌+◌, ◌*◌, ◌^◌, ◌<◌, ◌≤◌, ℕ, zero, suc, false, List, length, Option, Some, None, IfSome, inl, inr, refl, sym, ap, subst, ◌∙◌, arith}
 use Rattle.std.proofs.lemmas.Bool.{cases_Bool}
 use Rattle.ow_base.specs.Pages.{Pages, bytes_at}
 use Rattle.phys_memory.specs.Memory.{words_of}
-use Rattle.record_layouts.specs.declared.desc.DescRec.{DescRec}
 use Rattle.record_layouts.specs.declared.head.HeadRec.{HeadRec}
 use Rattle.record_layouts.specs.declared.term.TermRec.{TermRec}
 use Rattle.record_layouts.specs.declared.row.RowRec.{RowRec}
@@ -11,20 +10,20 @@ use Rattle.record_layouts.specs.declared.intent.Gate.TheVariants.{Closed}
 use Rattle.record_layouts.specs.declared.patch.PatchItem.{PatchItem}
 use Rattle.record_layouts.specs.Held.{AreValues, Held, Records, patched, with_items}
 use Rattle.record_layouts.specs.Row.{FitsRow}
-use Rattle.record_layouts.specs.Sound.{AreSound}
+use Rattle.record_layouts.specs.Sound.{AreOnTerminals, AreSound}
 use Rattle.record_layouts.specs.Term.{FitsTerm}
 use Rattle.record_layouts.specs.Values.{are_values}
+use Rattle.process_table.proofs.Descriptors.{on_terminals_stay}
 use Rattle.syscalls.specs.Planned.{Planned, PlanOnce, PlanWrite}
-use Rattle.syscalls.specs.Serving.{AreOnTerminals}
 use Rattle.ow_plant.specs.State.{PlantState, left_trap, risen, tty_of, Terminal as Device}
 use Rattle.intent_store.specs.Live.{IsStanding, gate_held, held_of, map_of, records_held, rest_of}
-use Rattle.kernel_traps.specs.Plants.{AreInWrites, AreTerminalsSound, HasBytes, IsInTrap, IsOfDevice, IsSound}
+use Rattle.kernel_traps.specs.Plants.{AreInWrites, AreTerminalsSound, IsInTrap, IsOfDevice, IsSound}
 use Rattle.kernel_traps.specs.Putting.{AreDrawn, IsPut, with_puts}
-use Rattle.kernel_traps.specs.Carrying.{IsCarriedOut, bytes_of}
+use Rattle.kernel_traps.specs.Carrying.{HasRoomFor, IsCarriedOut, bytes_of}
 use Rattle.kernel_traps.specs.Ending.{EndsTrap, HasStep}
-use Rattle.kernel_traps.proofs.OfProcesses.{items_beside, same_descs, same_rows, same_terms, shown_by}
-use Rattle.kernel_traps.proofs.ShownSound.{drawn_rows, drawn_terms, shown_sound, writes_too}
-use Rattle.kernel_traps.proofs.Terminals.{has_bytes, of_device-same, of_devices}
+use Rattle.kernel_traps.proofs.OfProcesses.{items_beside, same_rows, same_terms, shown_by}
+use Rattle.kernel_traps.proofs.ShownSound.{drawn_rows, drawn_terms, on_terminals_too, shown_sound, writes_too}
+use Rattle.kernel_traps.proofs.Terminals.{few_bytes, of_device-same, of_devices}
 
 -- what is written is short, and goes to a terminal that there is
 abbrev pub IsShort : Planned → Type 0
@@ -50,7 +49,7 @@ pub record IsKept (s new : PlantState) : Type 0 where
   pub served : head.served ≡ s.traps
 
 -- a plant whose records and terminals are so is sound as the trap is left
-pub left_sound : (s new : PlantState) (steps : ℕ) → IsInTrap s steps → IsKept s new → IsStanding new → new.refused ≡ false → gate_held new ≡ Closed
+pub left_sound : (s new : PlantState) (steps : ℕ) → IsInTrap s steps → IsKept s new → IsStanding new → new.refusal ≡ None → gate_held new ≡ Closed
     → IsSound (left_trap new)
 left_sound s new steps trap kept stands able shut =
     let same_steps : new.steps ≡ s.steps = ap (λ (p : PlantState). p.steps) kept.rest in
@@ -72,15 +71,8 @@ left_sound s new steps trap kept stands able shut =
           (omega (arith, kept.served, same_traps, trap.fits));
       terminals = record { records = terminals.records; bytes = terminals.bytes };
       budget = omega (arith, same_steps, same_budget, trap.budget);
-      most = omega (arith, same_budget, trap.most);
       in_user = λ inside. absurd (cc (inside, in_kernel));
     }
-
--- no description is on a file where descriptions are the same
-on_terminals-same : (old new : Records) → new.descs ≡ old.descs → AreOnTerminals old → AreOnTerminals new
-on_terminals-same old new descs on = record {
-  each = λ i. subst (λ (held : ℕ → Option DescRec). IfSome (held i) (λ description. description.object ≢ 1)) (sym descs) (on.each i);
-}
 
 -- the records between the bytes and the patch are sound
 between_sound : (r put : Records) (tty : ℕ) (bytes : List ℕ) → AreSound r → AreDrawn tty bytes r put
@@ -111,7 +103,7 @@ once_kept s new steps items trap ends is =
       tty1 = s.tty1;
       rest = rest;
       records = subst AreSound (sym records) ends.keeps_sound;
-      on_terminals = on_terminals-same r (records_held new) (ap (λ (q : Records). q.descs) records ∙ same_descs r items ends.of_processes) trap.held.on_terminals;
+      on_terminals = subst AreOnTerminals (sym records) (on_terminals_stay r items ends.keeps_descriptors trap.held.on_terminals);
       in_writes = subst AreInWrites (sym records) ends.in_writes;
       terminals = record {
         records = λ tty low. subst (λ (p : PlantState). IfSome ((records_held new).terms tty) (IsOfDevice (records_held new) tty (tty_of p tty))) (sym rest)
@@ -119,8 +111,7 @@ once_kept s new steps items trap ends is =
             (λ index within. ap (λ (f : ℕ → Option RowRec). f index) rows) (trap.terminals.records tty low));
         bytes = λ tty low.
             let was = trap.terminals.bytes tty low in
-            subst (λ (p : PlantState). HasBytes (tty_of p tty) s.steps p.shape.budget) (sym rest)
-            (record { few = omega (arith, was.few, trap.counted); room = was.room });
+            subst (λ (p : PlantState). length (tty_of p tty).tape ≤ 16 * s.steps) (sym rest) (omega (arith, was, trap.counted));
       };
       head = ends.head;
       is_head = ap (λ (q : Records). q.head) records ∙ ends.is_head;
@@ -128,28 +119,26 @@ once_kept s new steps items trap ends is =
     }
 
 -- the terminals behind the bytes
-write_terminals : (s new : PlantState) (steps tty : ℕ) (bytes : List ℕ) (put : Records) → IsInTrap s steps → steps < s.steps → tty < 2 → length bytes ≤ 16
+write_terminals : (s new : PlantState) (steps tty : ℕ) (bytes : List ℕ) (put : Records) → IsInTrap s steps → s.shape.budget ≤ 2000000 → steps < s.steps → tty < 2 → length bytes ≤ 16
     → AreDrawn tty bytes (records_held s) put → rest_of new ≡ with_puts (rest_of s) tty bytes
     → (records_held new).terms ≡ put.terms → (records_held new).rows ≡ put.rows → AreTerminalsSound new s.steps
-write_terminals s new steps tty bytes put trap step low short drawn rest terms rows =
+write_terminals s new steps tty bytes put trap most step low short drawn rest terms rows =
     let was = trap.terminals.bytes tty low in
-    let few : length (tty_of s tty).tape + length bytes < 2 ^ 32 = omega (arith, was.few, trap.counted, trap.budget, trap.most) in
+    let few : length (tty_of s tty).tape + length bytes < 2 ^ 32 = omega (arith, was, trap.counted, trap.budget, most) in
     let devices = of_devices (rest_of s) tty bytes (records_held s) put low drawn few trap.terminals.records in
-    let budget : (with_puts (rest_of s) tty bytes).shape.budget ≡ s.shape.budget = ap (λ (p : PlantState). p.shape.budget) (puts_beside (rest_of s) tty bytes) in
-    let counts = has_bytes (rest_of s) tty bytes steps s.steps s.shape.budget low short step trap.terminals.bytes in
+    let counts = few_bytes (rest_of s) tty bytes steps s.steps low short step trap.terminals.bytes in
     record {
       records = λ other low_too. subst (λ (p : PlantState). IfSome ((records_held new).terms other) (IsOfDevice (records_held new) other (tty_of p other))) (sym rest)
           (of_device-same put (records_held new) other (tty_of (with_puts (rest_of s) tty bytes) other) (ap (λ (f : ℕ → Option TermRec). f other) terms)
           (λ index within. ap (λ (f : ℕ → Option RowRec). f index) rows) (devices other low_too));
-      bytes = λ other low_too. subst (λ (p : PlantState). HasBytes (tty_of p other) s.steps p.shape.budget) (sym rest)
-          (subst (λ (b : ℕ). HasBytes (tty_of (with_puts (rest_of s) tty bytes) other) s.steps b) (sym budget) (counts other low_too));
+      bytes = λ other low_too. subst (λ (p : PlantState). length (tty_of p other).tape ≤ 16 * s.steps) (sym rest) (counts other low_too);
     }
 
 -- records that are set behind bytes
 write_kept : (s new : PlantState) (steps tty from len : ℕ) (bytes : List ℕ) (items : List PatchItem) (put : Held PlantState)
-    → IsInTrap s steps → steps < s.steps → EndsTrap (records_held s) s.traps (PlanWrite tty from len items) → tty < 2 → length bytes ≤ 16
+    → IsInTrap s steps → s.shape.budget ≤ 2000000 → steps < s.steps → EndsTrap (records_held s) s.traps (PlanWrite tty from len items) → tty < 2 → length bytes ≤ 16
     → IsPut (held_of s) tty bytes bytes put → held_of new ≡ patched items put → IsKept s new
-write_kept s new steps tty from len bytes items put trap step ends low short is last =
+write_kept s new steps tty from len bytes items put trap most step ends low short is last =
     let r = records_held s in
     let of = ends.of_processes in
     let records : records_held new ≡ with_items put.records items = ap (λ (h : Held PlantState). h.records) last in
@@ -169,26 +158,34 @@ write_kept s new steps tty from len bytes items put trap step ends low short is 
       tty1 = (with_puts (rest_of s) tty bytes).tty1;
       rest = rest ∙ puts_beside (rest_of s) tty bytes;
       records = subst AreSound (sym now) (ends.keeps_sound put.records.terms put.records.rows sound);
-      on_terminals = on_terminals-same r (records_held new) (ap (λ (q : Records). q.descs) beside ∙ same_descs r items of) trap.held.on_terminals;
+      on_terminals = subst AreOnTerminals (sym beside) (on_terminals_too (with_items r items) put.records.terms put.records.rows
+          (on_terminals_stay r items ends.keeps_descriptors trap.held.on_terminals));
       in_writes = subst AreInWrites (sym beside) (writes_too (with_items r items) put.records.terms put.records.rows ends.in_writes);
-      terminals = write_terminals s new steps tty bytes put.records trap step low short is.drawn rest terms rows;
+      terminals = write_terminals s new steps tty bytes put.records trap most step low short is.drawn rest terms rows;
       head = ends.head;
       is_head = ap (λ (q : Records). q.head) beside ∙ ends.is_head;
       served = ends.served;
     }
 
 -- a service is carried out
-kept : (s new : PlantState) (steps slot : ℕ) (plan : Planned) → IsInTrap s steps → HasStep plan steps s.steps → EndsTrap (records_held s) s.traps plan → IsShort plan
+kept : (s new : PlantState) (steps slot : ℕ) (plan : Planned) → IsInTrap s steps → s.shape.budget ≤ 2000000 → HasStep plan steps s.steps → EndsTrap (records_held s) s.traps plan → IsShort plan
     → IsCarriedOut s slot plan (held_of new) → IsKept s new
-kept s new steps slot (PlanOnce items) trap step ends short is = once_kept s new steps items trap ends is
-kept s new steps slot (PlanWrite tty from len items) trap step ends (low, short) (put, is, last) =
+kept s new steps slot (PlanOnce items) trap most step ends short is = once_kept s new steps items trap ends is
+kept s new steps slot (PlanWrite tty from len items) trap most step ends (low, short) (put, is, last) =
     let bytes = bytes_of s slot from len in
     let long : length bytes ≡ len = length-bytes_at _ from len in
-    write_kept s new steps tty from len bytes items put trap step ends low (omega (arith, long, short)) is last
+    write_kept s new steps tty from len bytes items put trap most step ends low (omega (arith, long, short)) is last
 
 -- and the trap is left
-pub carried_sound : (s new : PlantState) (steps slot : ℕ) (plan : Planned) → IsInTrap s steps → HasStep plan steps s.steps
+pub carried_sound : (s new : PlantState) (steps slot : ℕ) (plan : Planned) → IsInTrap s steps → s.shape.budget ≤ 2000000 → HasStep plan steps s.steps
     → EndsTrap (records_held s) s.traps plan → IsShort plan → IsCarriedOut s slot plan (held_of new)
-    → new.refused ≡ false → gate_held new ≡ Closed → IsStanding new → IsSound (left_trap new)
-carried_sound s new steps slot plan trap step ends short is able shut stands =
-    left_sound s new steps trap (kept s new steps slot plan trap step ends short is) stands able shut
+    → new.refusal ≡ None → gate_held new ≡ Closed → IsStanding new → IsSound (left_trap new)
+carried_sound s new steps slot plan trap most step ends short is able shut stands =
+    left_sound s new steps trap (kept s new steps slot plan trap most step ends short is) stands able shut
+
+-- the terminals have room for what a plan writes, as each has for 16 bytes in each step of the budget
+pub has_room : (s : PlantState) (steps : ℕ) (plan : Planned) → IsInTrap s steps → HasStep plan steps s.steps
+    → ((tty : ℕ) → tty < 2 → (tty_of s tty).room ≡ 16 * s.shape.budget) → HasRoomFor s plan
+has_room s steps (PlanOnce items) trap step room = tt
+has_room s steps (PlanWrite tty from len items) trap step room =
+    record { each = λ tty low. omega (arith, trap.terminals.bytes tty low, room tty low, step, trap.budget) }

@@ -23,7 +23,7 @@ use Rattle.ow_plant.specs.State.{PlantState, now_of}
 use Rattle.intent_store.specs.Live.{records_held}
 use Rattle.kernel_traps.specs.Plants.{IsSound, unix_at}
 use Rattle.kernel_traps.specs.Turning.{AllHaveEnded, IsTurn, IsTurned}
-use Rattle.kernel_traps.specs.Traps.{HasSignalIn, IsLiveAs, IsPieceTrap, IsSignalTrap, IsTrapMade, IsTurnInUser, IsUserTurned}
+use Rattle.kernel_traps.specs.Traps.{HasPassed, HasSignalIn, IsLiveAs, IsNoPanicNext, IsPieceTrap, IsSignalTrap, IsTrapMade, IsTurnInUser, IsUserTurned}
 use Rattle.kernel_traps.specs.User.{IsOutside, IsReturned}
 use Rattle.kernel_traps.specs.declared.turns.Turn.{Turn}
 use Rattle.kernel_traps.specs.declared.turns.Turn.TheVariants as turns
@@ -74,48 +74,41 @@ outside_state : (process : ProcRec) → is_live process ≡ true → (process.st
 outside_state process live out = grind (arith, nat_tests, live, out)
 
 -- a step is left where some process is live
-pub left_by : (s t : PlantState) → t ≡ s → (s.steps < s.shape.budget) ⊎ AllHaveEnded s → (AllHaveEnded s → ⊥) → t.steps < t.shape.budget
-left_by s t same (inl left) live = subst (λ (t : PlantState). t.steps < t.shape.budget) (sym same) left
-left_by s t same (inr ended) live = absurd (live ended)
+pub left_by : (s : PlantState) → (s.steps < s.shape.budget) ⊎ AllHaveEnded s → (AllHaveEnded s → ⊥) → s.steps < s.shape.budget
+left_by s (inl left) live = left
+left_by s (inr ended) live = absurd (live ended)
 
-pub work_live : (s b : PlantState) (slot : ℕ) (done : Choice) → b ≡ s → IsSound s → IsWork (records_held b) (now_of b) slot done → AllHaveEnded s → ⊥
-work_live s b slot done same sound is =
-    let own : IsWork (records_held s) (now_of s) slot done = subst (λ (t : PlantState). IsWork (records_held t) (now_of t) slot done) same is in
-    not_ended s slot own.process sound (work_in (records_held s) (now_of s) slot done own)
+pub work_live : (s : PlantState) (slot : ℕ) (done : Choice) → IsSound s → IsWork (records_held s) (now_of s) slot done → AllHaveEnded s → ⊥
+work_live s slot done sound is = not_ended s slot is.process sound (work_in (records_held s) (now_of s) slot done is)
 
-pub rest_live : (s b : PlantState) → b ≡ s → IsSound s → IsRest (records_held b) (now_of b) true → AllHaveEnded s → ⊥
-rest_live s b same sound is ended =
-    let own : IsRest (records_held s) (now_of s) true = subst (λ (t : PlantState). IsRest (records_held t) (now_of t) true) same is in
-    let both : false ≡ true = sym ended ∙ rest_tells s true sound own in
+pub rest_live : (s : PlantState) → IsSound s → IsRest (records_held s) (now_of s) true → AllHaveEnded s → ⊥
+rest_live s sound is ended =
+    let both : false ≡ true = sym ended ∙ rest_tells s true sound is in
     cc
 
-pub all_ended : (s b t : PlantState) → b ≡ s → t ≡ s → IsSound s → IsRest (records_held b) (now_of b) false → AllHaveEnded s × (t ≡ s)
-all_ended s b t same same_end sound is =
-    let own : IsRest (records_held s) (now_of s) false = subst (λ (t : PlantState). IsRest (records_held t) (now_of t) false) same is in
-    (rest_tells s false sound own, same_end)
+pub all_ended : (s : PlantState) → IsSound s → IsRest (records_held s) (now_of s) false → AllHaveEnded s
+all_ended s sound is = rest_tells s false sound is
 
 -- what the process of a slot is asked for
-pub is_outside : (s b t : PlantState) (slot : ℕ) → b ≡ s → t ≡ s → IsWork (records_held b) (now_of b) slot (choice.User slot) → (process : ProcRec) × IsOutside t slot process
-is_outside s b t slot same same_end is =
-    let own : IsWork (records_held s) (now_of s) slot (choice.User slot) = subst (λ (t : PlantState). IsWork (records_held t) (now_of t) slot (choice.User slot)) same is in
-    let there = work_in (records_held s) (now_of s) slot (choice.User slot) own in
-    let last = user_last slot (signal_by own.process ((records_held s).sigs slot)) own.process.state own.work in
-    subst (λ (t : PlantState). (process : ProcRec) × IsOutside t slot process) (sym same_end) (own.process, record { there = there; outside = outside_state own.process there.live last.1 })
+pub is_outside : (s : PlantState) (slot : ℕ) → IsWork (records_held s) (now_of s) slot (choice.User slot) → (process : ProcRec) × IsOutside s slot process
+is_outside s slot is =
+    let there = work_in (records_held s) (now_of s) slot (choice.User slot) is in
+    let last = user_last slot (signal_by is.process ((records_held s).sigs slot)) is.process.state is.work in
+    (is.process, record { there = there; outside = outside_state is.process there.live last.1 })
 
-pub has_signal : (s b t : PlantState) (slot : ℕ) → b ≡ s → t ≡ s → IsWork (records_held b) (now_of b) slot (choice.Signal slot) → HasSignalIn (records_held t) slot
-has_signal s b t slot same same_end is =
-    let own : IsWork (records_held s) (now_of s) slot (choice.Signal slot) = subst (λ (t : PlantState). IsWork (records_held t) (now_of t) slot (choice.Signal slot)) same is in
-    subst (λ (t : PlantState). HasSignalIn (records_held t) slot) (sym same_end)
-    (own.process, work_in (records_held s) (now_of s) slot (choice.Signal slot) own, signal_first slot (signal_by own.process ((records_held s).sigs slot)) own.process.state own.work)
+pub has_signal : (s : PlantState) (slot : ℕ) → IsWork (records_held s) (now_of s) slot (choice.Signal slot) → HasSignalIn (records_held s) slot
+has_signal s slot is = (
+  is.process,
+  work_in (records_held s) (now_of s) slot (choice.Signal slot) is,
+  signal_first slot (signal_by is.process ((records_held s).sigs slot)) is.process.state is.work,
+)
 
 -- a signal is taken
-pub signal_turned : (s b t new : PlantState) (slot : ℕ) → b ≡ s → t ≡ s → IsSound s → s.in_user ≡ false → IsWork (records_held b) (now_of b) slot (choice.Signal slot)
-    → IsSignalTrap t new slot → IsTurned s new × (new.traps ≡ s.traps + 1)
-signal_turned s b t new slot same same_end sound in_kernel is of =
-    let own : IsWork (records_held s) (now_of s) slot (choice.Signal slot) = subst (λ (t : PlantState). IsWork (records_held t) (now_of t) slot (choice.Signal slot)) same is in
-    let (process, there, (p, live, (signal, goes, made))) = subst (λ (t : PlantState). IsSignalTrap t new slot) same_end of in
+pub signal_turned : (s new : PlantState) (slot : ℕ) → IsSound s → s.in_user ≡ false → IsWork (records_held s) (now_of s) slot (choice.Signal slot)
+    → IsSignalTrap s new slot → IsTurned s new × (new.traps ≡ s.traps + 1)
+signal_turned s new slot sound in_kernel is (process, there, (p, live, (signal, goes, made))) =
     turned s new (signalled (unix_at s) process.pid p signal) made
-    (signal_turn s process.pid p signal in_kernel (chosen_of s slot process sound in_kernel own.chosen there.there) live goes)
+    (signal_turn s process.pid p signal in_kernel (chosen_of s slot process sound in_kernel is.chosen there.there) live goes)
 
 -- what a chosen process is in the Unix
 no_signal : (s : PlantState) (slot : ℕ) (process : ProcRec) (p : Process) → IsSound s → s.in_user ≡ false → IsIn (records_held s) slot process → IsLiveAs s process.pid p
@@ -138,31 +131,25 @@ out_of_call : (process : ProcRec) → (process.state == 2) ≡ false → call_of
 out_of_call process out = rw out refl
 
 -- a piece is made
-pub piece_turned : (s b t new : PlantState) (slot : ℕ) → b ≡ s → t ≡ s → IsSound s → s.in_user ≡ false → IsWork (records_held b) (now_of b) slot (choice.Piece slot)
-    → IsPieceTrap t new slot → IsTurned s new × (new.traps ≡ s.traps + 1)
-piece_turned s b t new slot same same_end sound in_kernel is of =
-    let own : IsWork (records_held s) (now_of s) slot (choice.Piece slot) = subst (λ (t : PlantState). IsWork (records_held t) (now_of t) slot (choice.Piece slot)) same is in
-    let (process, there, (p, live, made)) = subst (λ (t : PlantState). IsPieceTrap t new slot) same_end of in
-    let one : own.process ≡ process = one_process (records_held s) slot own.process process own.there there.there in
+pub piece_turned : (s new : PlantState) (slot : ℕ) → IsSound s → s.in_user ≡ false → IsWork (records_held s) (now_of s) slot (choice.Piece slot)
+    → IsPieceTrap s new slot → IsTurned s new × (new.traps ≡ s.traps + 1)
+piece_turned s new slot sound in_kernel is (process, there, (p, live, made)) =
+    let one : is.process ≡ process = one_process (records_held s) slot is.process process is.there there.there in
     let work : choice.Piece slot ≡ work_of slot (signal_by process ((records_held s).sigs slot)) process.state =
-    subst (λ (q : ProcRec). choice.Piece slot ≡ work_of slot (signal_by q ((records_held s).sigs slot)) q.state) one own.work in
+    subst (λ (q : ProcRec). choice.Piece slot ≡ work_of slot (signal_by q ((records_held s).sigs slot)) q.state) one is.work in
     let last = piece_then slot (signal_by process ((records_held s).sigs slot)) process.state work in
     turned s new (piece_of (unix_at s) process.pid p) made
-    (piece_turn s process.pid p process.call process.done in_kernel (chosen_of s slot process sound in_kernel own.chosen there.there) live
+    (piece_turn s process.pid p process.call process.done in_kernel (chosen_of s slot process sound in_kernel is.chosen there.there) live
     (no_signal s slot process p sound in_kernel there live last.0) (its_call s slot process p sound in_kernel there live ∙ in_its_call process last.1))
 
 -- no process can run
-pub idle_turned : (s b t new : PlantState) → b ≡ s → t ≡ s → IsSound s → s.in_user ≡ false → IsRest (records_held b) (now_of b) true → IsTrapMade t new (idled (unix_at t)) 1
+pub idle_turned : (s new : PlantState) → IsSound s → s.in_user ≡ false → IsRest (records_held s) (now_of s) true → IsTrapMade s new (idled (unix_at s)) 1
     → IsTurned s new × (new.traps ≡ s.traps + 1)
-idle_turned s b t new same same_end sound in_kernel is made =
-    let own : IsRest (records_held s) (now_of s) true = subst (λ (t : PlantState). IsRest (records_held t) (now_of t) true) same is in
-    turned s new (idled (unix_at s)) (subst (λ (t : PlantState). IsTrapMade t new (idled (unix_at t)) 1) same_end made) (idle_turn s in_kernel (none_of s sound in_kernel own.0))
+idle_turned s new sound in_kernel is made = turned s new (idled (unix_at s)) made (idle_turn s in_kernel (none_of s sound in_kernel is.0))
 
 -- control goes to a process, and its turn follows
-pub left_returned : (s t new : PlantState) (slot : ℕ) → t ≡ s → IsReturned t slot new → s.steps < s.shape.budget → new.steps < new.shape.budget
-left_returned s t new slot same is left =
-    let before : t.steps < t.shape.budget = subst (λ (t : PlantState). t.steps < t.shape.budget) (sym same) left in
-    subst (λ (n : PlantState). n.steps < n.shape.budget) (sym is.loaded) before
+pub left_returned : (s new : PlantState) (slot : ℕ) → IsReturned s slot new → s.steps < s.shape.budget → new.steps < new.shape.budget
+left_returned s new slot is left = subst (λ (n : PlantState). n.steps < n.shape.budget) (sym is.loaded) left
 
 returned_turn : (s between : PlantState) (slot : ℕ) → IsSound s → s.in_user ≡ false → IsWork (records_held s) (now_of s) slot (choice.User slot) → IsReturned s slot between
     → turn_at no_keys between.shape.quantum (unix_at between) (AtUser between.user_pid between.slice) ≡ turn s.shape (unix_at s)
@@ -199,12 +186,20 @@ returned_by s between new slot turns.Step sound in_kernel own is made = (then_tu
 returned_by s between new slot turns.Trap sound in_kernel own is made = (then_turned s between new slot sound in_kernel own is made.0, made.1 ∙ ap (λ (n : PlantState). n.traps + 1) is.loaded)
 returned_by s between new slot turns.AllEnded sound in_kernel own is made = absurd made
 
-pub returned_turned : {E : Type 0} (r : Result Turn E) (s b t between new : PlantState) (slot : ℕ) → b ≡ s → t ≡ s → IsSound s → s.in_user ≡ false
-    → IsWork (records_held b) (now_of b) slot (choice.User slot) → IsReturned t slot between → IfOk r (IsTurnInUser between new) → IfOk r (IsTurn s new)
-returned_turned (Ok made) s b t between new slot same same_end sound in_kernel is returned turned =
-    returned_by s between new slot made sound in_kernel (subst (λ (t : PlantState). IsWork (records_held t) (now_of t) slot (choice.User slot)) same is)
-    (subst (λ (t : PlantState). IsReturned t slot between) same_end returned) turned
-returned_turned (Err e) s b t between new slot same same_end sound in_kernel is returned turned = tt
+pub returned_turned : {E : Type 0} (r : Result Turn E) (s between new : PlantState) (slot : ℕ) → IsSound s → s.in_user ≡ false
+    → IsWork (records_held s) (now_of s) slot (choice.User slot) → IsReturned s slot between → IfOk r (IsTurnInUser between new) → IfOk r (IsTurn s new)
+returned_turned (Ok made) s between new slot sound in_kernel is returned turned = returned_by s between new slot made sound in_kernel is returned turned
+returned_turned (Err e) s between new slot sound in_kernel is returned turned = tt
+
+-- and no panic was to come in the trap that was made
+passed_by : (s between : PlantState) (slot : ℕ) (made : Turn) → IsReturned s slot between → HasPassed between made → HasPassed s made
+passed_by s between slot turns.Step is passed = tt
+passed_by s between slot turns.Trap is passed = subst IsNoPanicNext is.loaded passed
+passed_by s between slot turns.AllEnded is passed = tt
+
+pub returned_passed : {E : Type 0} (r : Result Turn E) (s between : PlantState) (slot : ℕ) → IsReturned s slot between → IfOk r (HasPassed between) → IfOk r (HasPassed s)
+returned_passed (Ok made) s between slot is passed = passed_by s between slot made is passed
+returned_passed (Err e) s between slot is passed = tt
 
 -- in user mode some process is live
 pub user_not_ended : (s : PlantState) → IsSound s → s.in_user ≡ true → AllHaveEnded s → ⊥

@@ -1,21 +1,18 @@
 -- Each plan of a trap ends it.
-use Rattle.std.proofs.Common.{◌≡◌, ◌∙◌, ◌==◌, ◌+◌, ◌%◌, ◌<◌, ℕ, nat_lt, true, List, [], ◌∷◌, length, Option, Some, None, IfSome, inl, inr, refl, sym, ap, subst, arith}
+use Rattle.std.proofs.Common.{◌≡◌, ◌∙◌, ◌⊎◌, ◌==◌, ◌+◌, ◌<◌, ◌≤◌, ℕ, nat_lt, true, List, [], ◌∷◌, length, Option, Some, IfSome, inl, inr, refl, sym, ap, subst, arith}
 use Rattle.std.proofs.lemmas.Bool.{cases_Bool}
 use Rattle.std.proofs.lemmas.Bool.Decides.{nat_tests}
 use Rattle.std.proofs.lemmas.List.Elements.{All-cons, All-nil}
 use Rattle.ow_base.specs.Sv32.{WordMap}
-use Rattle.ow_base.specs.Words.{minus, updated}
-use Rattle.ow_base.specs.Pages.{Pages, is_readable}
+use Rattle.ow_base.specs.Words.{updated}
 use Rattle.ow_base.specs.UserStep.{register}
 use Rattle.ow_base.specs.declared.machine.Bank.{Bank}
 use Rattle.record_layouts.specs.declared.head.HeadRec.{HeadRec}
 use Rattle.record_layouts.specs.declared.proc.ProcRec.{ProcRec}
 use Rattle.record_layouts.specs.declared.sig.SigRec.{SigRec}
-use Rattle.record_layouts.specs.declared.desc.DescRec.{DescRec}
 use Rattle.record_layouts.specs.declared.patch.PatchItem.{PatchItem}
 use Rattle.record_layouts.specs.declared.places.RecordId.TheVariants as id
 use Rattle.record_layouts.specs.declared.patch.AnyRec.TheVariants as any
-use Rattle.record_layouts.specs.Calls.{tty_piece}
 use Rattle.record_layouts.specs.Held.{Records, with_items}
 use Rattle.record_layouts.specs.Pages.{pages_of}
 use Rattle.record_layouts.specs.Spelling.{IsStatus}
@@ -23,7 +20,9 @@ use Rattle.record_layouts.specs.Head.{FitsHead}
 use Rattle.record_layouts.specs.Decode.{next_by}
 use Rattle.record_layouts.specs.Sound.{IsIn, AreNumbered, AreSound}
 use Rattle.process_table.specs.Choosing.{next_signal}
-use Rattle.process_table.specs.Patches.{ended_exit, ended_items, ended_process, handler_of, head_item, in_handler, interrupted, process_item, saved_items, saved_process, signal_items, signalled_process, without_signal}
+use Rattle.process_table.specs.Meaning.{KeepDescriptors}
+use Rattle.process_table.specs.Patches.{bank_of, ended_exit, ended_items, ended_process, handler_of, head_item, in_handler, interrupted, process_item, saved_items, saved_process, signal_items, signalled_process, without_signal}
+use Rattle.process_table.proofs.Descriptors.{end_keeps, save_keeps, signal_keeps}
 use Rattle.process_table.proofs.EndedSound.{ended_sound, where_held}
 use Rattle.process_table.proofs.Endings.{ended_are}
 use Rattle.process_table.proofs.Kept.{AllWere, calls_stay, kin_itself, mapped_stay}
@@ -31,12 +30,11 @@ use Rattle.process_table.proofs.Running.{signal_range}
 use Rattle.process_table.proofs.Saving.{saved_sound}
 use Rattle.process_table.proofs.Signalling.{signal_sound}
 use Rattle.syscalls.specs.Done.{KeepsSound}
-use Rattle.syscalls.specs.Planned.{Planned, PlanOnce, answered_process, argument_of, caller_with, is_written, items_of, named, planned_answer, planned_call, planned_further, planned_number, planned_piece, planned_tty, planned_write, planned_write_on, staying_process, stopped_answer, written_process, yielded_process}
-use Rattle.syscalls.proofs.Naming.{InWrite, in_write}
-use Rattle.syscalls.proofs.KeptSound.{call_keeps}
-use Rattle.syscalls.proofs.Exported.{further_keeps, writes_on}
+use Rattle.syscalls.specs.Planned.{Planned, PlanOnce, caller_with, items_in, items_of, planned_call, planned_number, planned_of_call, planned_piece}
+use Rattle.syscalls.proofs.KeptSound.{call_keeps, piece_keeps}
+use Rattle.syscalls.proofs.Planning.{IsServedAs, call_keeps_descriptors, number_items, piece_items, piece_keeps_descriptors}
 use Rattle.kernel_traps.specs.Plants.{AreInWrites}
-use Rattle.kernel_traps.specs.Carrying.{AreOfProcesses, is_of_process, items_in}
+use Rattle.kernel_traps.specs.Carrying.{AreOfProcesses, is_of_process}
 use Rattle.kernel_traps.specs.Ending.{EndsTrap}
 use Rattle.kernel_traps.specs.Traps.{served_items}
 
@@ -95,10 +93,12 @@ ended_are_items r head slot process status trap writes = record {
   served = refl;
 }
 
-ends_with : (r : Records) (trap : ℕ) (plan : Planned) → AreItems r trap (items_in plan) → KeepsSound r plan → EndsTrap r trap plan
-ends_with r trap plan items keeps = record {
+ends_with : (r : Records) (trap : ℕ) (plan : Planned) → AreItems r trap (items_in plan) → KeepDescriptors r (items_in plan) → KeepsSound r plan
+    → EndsTrap r trap plan
+ends_with r trap plan items descriptors keeps = record {
   of_processes = items.of_processes;
   keeps_sound = keeps;
+  keeps_descriptors = descriptors;
   in_writes = items.in_writes;
   head = items.head;
   is_head = items.is_head;
@@ -112,12 +112,14 @@ unfolding saved_items
 saved_ends r head slot process bank trap sound writes is_head is out =
     ends_with r trap (PlanOnce (saved_items head slot process bank trap))
     (two_items r head slot trap process.pid (saved_process process bank) writes (λ s. absurd (omega (arith, s, out))))
+    (save_keeps r head slot process bank trap is)
     (saved_sound r head slot process bank trap sound is_head is out)
 
 pub ended_ends : (r : Records) (head : HeadRec) (slot : ℕ) (process : ProcRec) (status trap : ℕ) → AreSound r → AreInWrites r → r.head ≡ Some head → IsIn r slot process
     → IsStatus status → EndsTrap r trap (PlanOnce (ended_items head slot process status trap))
 ended_ends r head slot process status trap sound writes is_head is word =
     ends_with r trap (PlanOnce (ended_items head slot process status trap)) (ended_are_items r head slot process status trap writes)
+    (end_keeps r head slot process status trap sound is)
     (subst AreSound (sym (ended_are r head slot process status trap)) (ended_sound r head slot process status trap sound is_head is word))
 
 -- a signal goes to a process: it is in no call that it was not in before
@@ -154,6 +156,7 @@ pub signal_ends_trap : (r : Records) (head : HeadRec) (slot : ℕ) (process : Pr
 signal_ends_trap r head slot process signals signal trap sound writes is_head is there next =
     let range = signal_range process signals signal next in
     ends_with r trap (PlanOnce (signal_items head slot process signals signal trap)) (signal_are_items r head slot process signals signal trap writes is)
+    (signal_keeps r head slot process signals signal trap sound is_head is there)
     (signal_sound r head slot process signals signal trap sound is_head is there range.0 range.1)
 
 -- the head alone says that a trap is served
@@ -214,83 +217,44 @@ pub served_ends : (r : Records) (head : HeadRec) (trap : ℕ) → AreSound r →
 served_ends r head trap sound writes is_head = record {
   of_processes = one_more (head_item head trap head.last) [] refl no_more;
   keeps_sound = served_sound r head trap sound is_head;
+  keeps_descriptors = record {
+    descs = refl;
+    was = λ slot process is. (process, record { within = is.within; there = is.there; live = is.live }, refl);
+  };
   in_writes = record { each = λ slot process is. writes.each slot process (record { within = is.within; there = is.there; live = is.live }) };
   head = record head { served = trap };
   is_head = refl;
   served = refl;
 }
 
--- what a call or a further piece of one asks for, case by case
-module _ (r : Records) (head : HeadRec) (slot trap : ℕ) (caller : ProcRec) (pages : Pages) (writes : AreInWrites r) where
-  answered_items : (answer : ℕ) → AreItems r trap (items_in (planned_answer (caller_with slot trap head caller) answer))
-  answered_items answer = two_items r head slot trap caller.pid (answered_process caller answer) writes (λ s. absurd (omega (arith, s)))
+-- what a call or a further piece of one asks for: the process ends, or becomes another
+module _ (r : Records) (head : HeadRec) (slot trap : ℕ) (process : ProcRec) (bank : Bank) (is : IsIn r slot process) (writes : AreInWrites r) where
+  ends_so : (status : ℕ) → status ≤ 0xff → AreItems r trap (ended_items head slot (saved_process process bank) status trap)
+  ends_so status small = ended_are_items r head slot (saved_process process bank) status trap writes
 
-  yielded_items : AreItems r trap (items_of (caller_with slot trap head caller) (yielded_process caller))
-  yielded_items = two_items r head slot trap caller.pid (yielded_process caller) writes (λ s. absurd (omega (arith, s)))
+  in_write : (after : ProcRec) → (after.call ≡ 2) ⊎ ((process.state ≡ 2) × (after.call ≡ process.call)) → after.call ≡ 2
+  in_write after (inl write) = write
+  in_write after (inr (state, same)) = same ∙ writes.each slot process is state
 
-  written_items : (count done : ℕ) → AreItems r trap (items_of (caller_with slot trap head caller) (written_process caller count done))
-  written_items count done = elim (cases_Bool (done == count)) [
-    | inl last ↦ rw last (answered_items count)
-    | inr more ↦ rw more (two_items r head slot trap caller.pid (staying_process caller done) writes (λ s. refl))
-  ]
-
-  tty_items : (tty done : ℕ) → AreItems r trap (items_in (planned_tty pages (caller_with slot trap head caller) tty done))
-  unfolding planned_tty
-  tty_items tty done =
-      let count = argument_of caller 2 in
-      let piece = tty_piece count done in
-      elim (cases_Bool (is_readable pages (argument_of caller 1 + done) piece)) [
-        | inl all ↦ rw all (written_items count (done + piece))
-        | inr some ↦ rw some (answered_items (stopped_answer done 14))
-      ]
-
-  write_items : (held : Option DescRec) → AreItems r trap (items_in (planned_write_on pages (caller_with slot trap head caller) held))
-  unfolding planned_write_on
-  write_items None = answered_items (minus 9)
-  write_items (Some d) = elim (cases_Bool (is_written d)) [
-    | inr reads ↦ rw reads (answered_items (minus 9))
-    | inl writes ↦ elim (cases_Bool (nat_lt 0x7fffffff (argument_of caller 2))) [
-      | inl many ↦ rw (writes, many) (answered_items (minus 22))
-      | inr few ↦ elim (cases_Bool (argument_of caller 2 == 0)) [
-        | inl none ↦ rw (writes, few, none) (answered_items 0)
-        | inr some ↦ rw (writes, few, some) (tty_items d.index 0)
-      ]
-    ]
-  ]
-
-  number_items : (number : ℕ) → AreItems r trap (items_in (planned_number r pages (caller_with slot trap head caller) number))
-  unfolding planned_number planned_write
-  number_items number = elim (cases_Bool (number == 1)) [
-    | inl exits ↦ rw exits (ended_are_items r head slot caller (argument_of caller 0 % 256) trap writes)
-    | inr no_exit ↦ elim (cases_Bool (number == 2)) [
-      | inl writes ↦ rw (no_exit, writes) (write_items (named r caller.descs (argument_of caller 0)))
-      | inr no_write ↦ elim (cases_Bool (number == 7)) [
-        | inl asks ↦ rw (no_exit, no_write, asks) (answered_items caller.pid)
-        | inr no_pid ↦ elim (cases_Bool (number == 18)) [
-          | inl yields ↦ rw (no_exit, no_write, no_pid, yields) yielded_items
-          | inr none ↦ rw (no_exit, no_write, no_pid, none) (answered_items (minus 38))
-        ]
-      ]
-    ]
-  ]
-
-  further_items : (held : Option DescRec) (d : DescRec) → held ≡ Some d → AreItems r trap (items_in (planned_further pages (caller_with slot trap head caller) held))
-  further_items (Some other) d is = tty_items other.index caller.done
-  further_items None d is = cc
+  becomes : (after : ProcRec) → IsServedAs process after → AreItems r trap (items_of (caller_with slot trap head (saved_process process bank)) after)
+  becomes after served = two_items r head slot trap after.pid after writes (λ state. in_write after (served.call state))
 
 pub call_ends : (r : Records) (words : WordMap) (slot trap : ℕ) (head : HeadRec) (process : ProcRec) (bank : Bank) → AreSound r → AreInWrites r → r.head ≡ Some head → IsIn r slot process
-    → length process.descs ≡ 8 → EndsTrap r trap (planned_call r words slot trap head process bank)
+    → process.state ≡ 1 → length process.descs ≡ 8 → EndsTrap r trap (planned_call r words slot trap head process bank)
 unfolding planned_call
-call_ends r words slot trap head process bank sound writes is_head is eight =
+call_ends r words slot trap head process bank sound writes is_head is out eight =
     ends_with r trap (planned_number r (pages_of r words slot process) (caller_with slot trap head (saved_process process bank)) (register bank.regs 17))
-    (number_items r head slot trap (saved_process process bank) (pages_of r words slot process) writes (register bank.regs 17))
-    (call_keeps r words slot trap head process bank sound is_head is eight)
+    (number_items (AreItems r trap) r head slot trap process bank is (pages_of r words slot process)
+    (ends_so r head slot trap process bank is writes) (becomes r head slot trap process bank is writes) (register bank.regs 17))
+    (call_keeps_descriptors r words slot trap head process bank sound is)
+    (call_keeps r words slot trap head process bank sound is_head is out eight)
 
 pub piece_ends : (r : Records) (words : WordMap) (slot trap : ℕ) (head : HeadRec) (process : ProcRec) → AreSound r → AreInWrites r → r.head ≡ Some head → IsIn r slot process
-    → process.state ≡ 2 → process.call ≡ 2 → EndsTrap r trap (planned_piece r words slot trap head process)
+    → process.state ≡ 2 → EndsTrap r trap (planned_piece r words slot trap head process)
 unfolding planned_piece
-piece_ends r words slot trap head process sound writes is_head is state call =
-    let inside : InWrite r process = in_write r slot process sound.values is.there (writes_on r slot process sound is state call) in
-    ends_with r trap (planned_further (pages_of r words slot process) (caller_with slot trap head process) (named r process.descs (argument_of process 0)))
-    (further_items r head slot trap process (pages_of r words slot process) writes (named r process.descs (argument_of process 0)) inside.description inside.is_named)
-    (further_keeps r words slot trap head process sound is_head is state call)
+piece_ends r words slot trap head process sound writes is_head is state =
+    ends_with r trap (planned_of_call r (pages_of r words slot process) (caller_with slot trap head process))
+    (piece_items (AreItems r trap) r head slot trap process (bank_of process) is (pages_of r words slot process)
+    (ends_so r head slot trap process (bank_of process) is writes) (becomes r head slot trap process (bank_of process) is writes))
+    (piece_keeps_descriptors r words slot trap head process sound is)
+    (piece_keeps r words slot trap head process sound is_head is state)

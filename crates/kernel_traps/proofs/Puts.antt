@@ -8,7 +8,7 @@ use Rattle.record_layouts.specs.declared.patch.PatchItem.{PatchItem}
 use Rattle.record_layouts.specs.Held.{Held, Records, patched, with_items}
 use Rattle.tty_screen.specs.Drawing.{DrawsByte, IsCounted, StaysBeside}
 use Rattle.tty_screen.specs.Shown.{ShowsScreen, TerminalDecodes}
-use Rattle.ow_plant.specs.State.{PlantState, refusal, risen, with_put, Terminal as Device}
+use Rattle.ow_plant.specs.State.{PlantState, risen, store_refused, with_put, Terminal as Device}
 use Rattle.intent_store.specs.Live.{held_of, rest_of}
 use Rattle.kernel_traps.specs.Putting.{AreCounted, AreDrawn, CountsBytes, IsPut, IsPutPartly, counted_after, last_of, puts_on, with_puts}
 
@@ -101,7 +101,7 @@ with_puts-none s tty = elim (cases_Bool (tty == 0)) [
 pub held_put : (s : PlantState) (tty byte : ℕ) → held_of (with_put s tty byte) ≡ record (held_of s) { rest = with_puts (rest_of s) tty (byte ∷ []) }
 held_put s tty byte = elim (cases_Bool (tty == 0)) [ inl first ↦ rw first refl | inr second ↦ rw second refl ]
 
-pub held_refused : (s : PlantState) → held_of (refusal s) ≡ held_of s
+pub held_refused : (s : PlantState) → held_of (store_refused s) ≡ held_of s
 held_refused s = refl
 
 -- nothing is put

@@ -1,7 +1,6 @@
 -- A store or an end is refused only in a trap with a panic to come.
-use Rattle.std.proofs.Common.{◌≡◌, ◌∙◌, ◌==◌, ℕ, true, false, List, ap, inl, inr, refl, arith}
+use Rattle.std.proofs.Common.{◌≡◌, ◌∙◌, ◌==◌, ℕ, true, List, None, ap, inl, inr, refl}
 use Rattle.std.proofs.lemmas.Bool.{cases_Bool}
-use Rattle.std.proofs.lemmas.Grind.{common_steps}
 use Rattle.record_layouts.specs.Held.{Held}
 use Rattle.ow_plant.specs.State.{PlantState, refuses}
 use Rattle.intent_store.specs.Live.{may_refuse, rest_of}
@@ -12,8 +11,8 @@ use Rattle.kernel_traps.specs.Putting.{IsPut, with_puts}
 pub refusals_same : (s t : PlantState) → rest_of t ≡ rest_of s → may_refuse t ≡ may_refuse s
 refusals_same s t e = ap (λ (p : PlantState). may_refuse p) e
 
-pub put_refused : (s : PlantState) → s.armed ≡ true → s.refused ≡ false → refuses s ≡ true → may_refuse s ≡ true
-put_refused s armed able refused = refused_in_trap s (grind (arith, common_steps, armed, able)) refused
+pub put_refused : (s : PlantState) → s.armed ≡ true → s.refusal ≡ None → refuses s ≡ true → may_refuse s ≡ true
+put_refused s armed able refused = refused_in_trap s (rw (armed, able) refl) refused
 
 -- bytes that are put change no point
 puts_same : (s : PlantState) (tty : ℕ) (bytes : List ℕ) → may_refuse (with_puts s tty bytes) ≡ may_refuse s

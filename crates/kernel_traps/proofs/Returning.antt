@@ -1,5 +1,5 @@
 -- Control goes to a process.
-use Rattle.std.proofs.Common.{◌≡◌, ◌==◌, ℕ, ◌+◌, ◌*◌, ◌^◌, ◌<◌, false, Option, Some, inl, inr, refl, ap, sym, subst, ◌∙◌, arith}
+use Rattle.std.proofs.Common.{◌≡◌, ◌==◌, ℕ, ◌+◌, ◌*◌, ◌^◌, ◌≤◌, false, Option, Some, inl, inr, refl, ap, sym, subst, ◌∙◌, arith}
 use Rattle.std.proofs.lemmas.Bool.{cases_Bool}
 use Rattle.std.proofs.lemmas.Bool.Decides.{nat_tests}
 use Rattle.ow_base.specs.Sv32.{WordMap}
@@ -38,7 +38,6 @@ returned_sound s slot process sound is = record {
   served = sound.served;
   terminals = record { records = sound.terminals.records; bytes = sound.terminals.bytes };
   budget = sound.budget;
-  most = sound.most;
   in_user = λ runs. (slot, process, record { there = is.there; pid = refl; outside = is.outside; root = refl });
 }
 
@@ -79,9 +78,9 @@ returned_unix s slot process sound is in_kernel =
     ∙ sym (ap (λ (c : Context). at_process (unix_of r words (tapes_of s) c s.steps s.traps) process.pid) before
     ∙ ap (λ (u : Unix). at_process u process.pid) (unix_is r words (tapes_of s) InKernel s.steps s.traps))
 
--- the frame of a root is one of memory's
-pub root_small : (s : PlantState) (slot base : ℕ) → IsSound s → base ≡ (records_held s).map.area_base → slot < 16 → base + 16 + 3 * slot < 2 ^ 22
-root_small s slot base sound is within =
+-- the frames of the area have numbers of 22 bits
+pub area_small : (s : PlantState) (base : ℕ) → IsSound s → base ≡ (records_held s).map.area_base → base + 64 ≤ 2 ^ 22
+area_small s base sound is =
     let memory = of_memory s sound.held.armed sound.held.shut in
     omega (arith, is, memory.apart, memory.fits)
 

@@ -8,7 +8,7 @@ use Rattle.record_layouts.specs.declared.row.RowRec.{RowRec}
 use Rattle.record_layouts.specs.Held.{AreComplete, Records}
 use Rattle.record_layouts.specs.Row.{FitsRow}
 use Rattle.record_layouts.specs.Term.{FitsTerm}
-use Rattle.record_layouts.specs.Sound.{AreInCalls, AreMapped, AreNumbered, AreSound, IsIn, IsInCall, IsTransfer}
+use Rattle.record_layouts.specs.Sound.{AreInCalls, AreMapped, AreNumbered, AreOnTerminals, AreSound, IsIn, IsInCall, IsTransfer}
 use Rattle.syscalls.proofs.Altered.{mapped_stays}
 use Rattle.tty_screen.specs.Drawing.{IsRowOf}
 use Rattle.kernel_traps.specs.Plants.{AreInWrites}
@@ -105,6 +105,9 @@ module _ (r : Records) (terms : ℕ → Option TermRec) (rows : ℕ → Option R
         in_calls = calls_too sound.in_calls;
         mapped = mapped_too sound.mapped;
       }
+
+  pub on_terminals_too : AreOnTerminals r → AreOnTerminals (shown_by r terms rows)
+  on_terminals_too on = record { each = λ slot process is fd within named. on.each slot process (was_in slot process is) fd within named }
 
   pub writes_too : AreInWrites r → AreInWrites (shown_by r terms rows)
   writes_too writes = record { each = λ slot process is state. writes.each slot process (was_in slot process is) state }

@@ -1,5 +1,5 @@
 -- Terminals are sound once bytes are out.
-use Rattle.std.proofs.Common.{◌≡◌, ◌≢◌, ◌+◌, ◌^◌, ◌<◌, ◌≤◌, ℕ, zero, suc, List, ◌++◌, length, drop, Option, Some, None, IfSome, inl, inr, refl, sym, ap, subst, ◌∙◌, arith, length-append}
+use Rattle.std.proofs.Common.{◌≡◌, ◌≢◌, ◌+◌, ◌*◌, ◌^◌, ◌<◌, ◌≤◌, ℕ, zero, suc, List, ◌++◌, length, drop, Option, Some, None, IfSome, inl, inr, refl, sym, ap, subst, ◌∙◌, arith, length-append}
 use Rattle.std.proofs.lemmas.Bool.Decides.{eqb_tells}
 use Rattle.std.proofs.lemmas.List.{drop-append-le}
 use Rattle.ow_base.specs.Screen.{Screen, drawn_all, screen_of}
@@ -9,7 +9,7 @@ use Rattle.tty_screen.specs.Drawing.{IsRowOf}
 use Rattle.tty_screen.specs.Shown.{ShowsScreen}
 use Rattle.tty_screen.proofs.ShownScreens.{shows_same}
 use Rattle.ow_plant.specs.State.{PlantState, tty_of, Terminal as Device}
-use Rattle.kernel_traps.specs.Plants.{HasBytes, IsOfDevice}
+use Rattle.kernel_traps.specs.Plants.{IsOfDevice}
 use Rattle.kernel_traps.specs.Putting.{AreCounted, AreDrawn, CountsBytes, puts_on, with_puts}
 use Rattle.kernel_traps.proofs.Puts.{drawn_all-then}
 use Rattle.kernel_traps.proofs.Done.{counted_is}
@@ -94,18 +94,16 @@ of_devices s tty bytes old new low drawn few each other low_too = elim (eqb_tell
 ]
 
 -- and has at most 16 bytes for each step
-pub has_bytes : (s : PlantState) (tty : ℕ) (bytes : List ℕ) (steps more budget : ℕ) → tty < 2 → length bytes ≤ 16 → steps < more
-    → ((other : ℕ) → other < 2 → HasBytes (tty_of s other) steps budget)
-    → (other : ℕ) → other < 2 → HasBytes (tty_of (with_puts s tty bytes) other) more budget
-has_bytes s tty bytes steps more budget low short step each other low_too = elim (eqb_tells other tty) [
+pub few_bytes : (s : PlantState) (tty : ℕ) (bytes : List ℕ) (steps more : ℕ) → tty < 2 → length bytes ≤ 16 → steps < more
+    → ((other : ℕ) → other < 2 → length (tty_of s other).tape ≤ 16 * steps)
+    → (other : ℕ) → other < 2 → length (tty_of (with_puts s tty bytes) other).tape ≤ 16 * more
+few_bytes s tty bytes steps more low short step each other low_too = elim (eqb_tells other tty) [
   | inl (test, same) ↦
       let was = each tty low in
       let longer : length ((tty_of s tty).tape ++ bytes) ≡ length (tty_of s tty).tape + length bytes = length-append (tty_of s tty).tape bytes in
-      subst (λ (k : ℕ). HasBytes (tty_of (with_puts s tty bytes) k) more budget) (sym same)
-      (subst (λ (device : Device). HasBytes device more budget) (sym (own_device s tty bytes low))
-      (record { few = omega (arith, was.few, longer); room = was.room }))
+      subst (λ (k : ℕ). length (tty_of (with_puts s tty bytes) k).tape ≤ 16 * more) (sym same)
+      (subst (λ (device : Device). length device.tape ≤ 16 * more) (sym (own_device s tty bytes low)) (omega (arith, was, longer)))
   | inr (test, apart) ↦
       let was = each other low_too in
-      subst (λ (device : Device). HasBytes device more budget) (sym (other_device s tty other bytes low low_too apart))
-      (record { few = omega (arith, was.few); room = was.room })
+      subst (λ (device : Device). length device.tape ≤ 16 * more) (sym (other_device s tty other bytes low low_too apart)) (omega (arith, was))
 ]

@@ -1,7 +1,7 @@
 -- The kinds of trap: each plan ends its trap, and makes of the state what the Unix makes of it.
 use Rattle.std.proofs.Common.{◌≡◌, ◌∙◌, ◌+◌, ◌-◌, ◌^◌, ◌<◌, ◌≤◌, ℕ, true, false, List, Option, Some, None, IfSome, OnOk, Result, Ok, Err, is_some, refl, sym, ap, subst, arith}
 use Rattle.phys_memory.specs.Memory.{words_of}
-use Rattle.ow_base.specs.declared.machine.Bank.{Bank}
+use Rattle.ow_base.specs.declared.machine.Came.{Came}
 use Rattle.ow_base.specs.declared.machine.Came.TheVariants as came
 use Rattle.record_layouts.specs.declared.head.HeadRec.{HeadRec}
 use Rattle.record_layouts.specs.declared.proc.ProcRec.{ProcRec}
@@ -36,27 +36,31 @@ use Rattle.intent_store.specs.Live.{records_held}
 use Rattle.kernel_traps.specs.Plants.{IsInTrap, IsRunning, IsSound, tapes_of, unix_at}
 use Rattle.kernel_traps.specs.Ending.{EndsTrap, HasStep, IsEnded}
 use Rattle.kernel_traps.specs.Traps.{HasSignalIn, IsCaughtIn, IsInCallIn, IsPieceTrap, IsSignalTrap, IsLiveAs, IsPlanOf, IsSignalTaken, IsTrapMade, IsTrapOf, served_items}
-use Rattle.kernel_traps.proofs.Entering.{begun, begins, closing_begins}
+use Rattle.kernel_traps.proofs.Entering.{MayTrap, begins, closing_begins}
 use Rattle.kernel_traps.proofs.Serves.{closed_in_user, closed_unix, idle_unix}
 use Rattle.kernel_traps.proofs.Stays.{eight_held}
 use Rattle.kernel_traps.proofs.Plans.{call_ends, ended_ends, piece_ends, saved_ends, served_ends, signal_ends_trap}
-use Rattle.kernel_traps.proofs.TrapUnix.{begun_same, once_made, one_step, one_trap, trap_made}
+use Rattle.kernel_traps.proofs.TrapUnix.{once_made, one_step, one_trap, same_entered, trap_made}
 
--- a trap may begin: the plant is sound, a step is left, and traps can still be counted
-pub record MayTrap (s : PlantState) : Type 0 where
-  pub sound : IsSound s
-  pub left : s.steps < s.shape.budget
-  pub few : s.traps < 2 ^ 32 - 2
+-- The plant in a trap, whichever it is: plans are made of its records, its words, its bank and the number of the trap.
+abbrev pub begun : PlantState → PlantState
+begun s = entered s came.Kernel 0
+
+-- a trap that writes nothing asks less at its end
+pub once_begun : (s t : PlantState) (how : Came) (pid : ℕ) → t ≡ entered s how pid → MayTrap s how → (steps : ℕ) × IsInTrap t steps × Unit {0}
+once_begun s t how pid same may = subst (λ (t : PlantState). (steps : ℕ) × IsInTrap t steps × Unit {0}) (sym same) (s.steps, begins s how pid may, tt)
 
 -- what the end of a trap asks
-pub trap_begun : (s t : PlantState) (x : Service) → t ≡ begun s → MayTrap s → (steps : ℕ) × IsInTrap t steps × HasStep (plan_of x) steps t.steps
-trap_begun s t (service.Once patch) same may = subst (λ (t : PlantState). (steps : ℕ) × IsInTrap t steps × Unit {0}) (sym same) (s.steps, begins s may.sound may.left may.few, tt)
-trap_begun s t (service.TtyWrite tty from len patch) same may =
-    let more : s.steps < (begun s).steps = omega (arith, may.sound.most, may.left) in
-    subst (λ (t : PlantState). (steps : ℕ) × IsInTrap t steps × (steps < t.steps)) (sym same) (s.steps, begins s may.sound may.left may.few, more)
+pub trap_begun : (s t : PlantState) (how : Came) (pid : ℕ) (x : Service) → t ≡ entered s how pid → MayTrap s how
+    → (steps : ℕ) × IsInTrap t steps × HasStep (plan_of x) steps t.steps
+trap_begun s t how pid (service.Once patch) same may = once_begun s t how pid same may
+trap_begun s t how pid (service.TtyWrite tty from len patch) same may =
+    let more : s.steps < (entered s how pid).steps = omega (arith, may.step, may.most, may.left) in
+    subst (λ (t : PlantState). (steps : ℕ) × IsInTrap t steps × (steps < t.steps)) (sym same) (s.steps, begins s how pid may, more)
 
-pub ends_begun : (s t : PlantState) (plan : Planned) → t ≡ begun s → EndsTrap (records_held s) (risen s.traps) plan → EndsTrap (records_held t) t.traps plan
-ends_begun s t plan same ends = subst (λ (t : PlantState). EndsTrap (records_held t) t.traps plan) (sym same) ends
+pub ends_begun : (s t : PlantState) (how : Came) (pid : ℕ) (plan : Planned) → t ≡ entered s how pid → EndsTrap (records_held s) (risen s.traps) plan
+    → EndsTrap (records_held t) t.traps plan
+ends_begun s t how pid plan same ends = subst (λ (t : PlantState). EndsTrap (records_held t) t.traps plan) (sym same) ends
 
 -- the head decodes
 pub has_head : (s : PlantState) → IsSound s → is_some (records_held s).head ≡ true
@@ -102,25 +106,17 @@ planned_by r slot x plan head process is_head there is =
     subst (λ (held : Option HeadRec). IfSome held (λ head. IfSome (r.procs slot) (λ process. plan_of x ≡ plan head process))) is_head is in
     subst (λ (held : Option ProcRec). IfSome held (λ process. plan_of x ≡ plan head process)) there by_head
 
-caught_by : (s b base : PlantState) (pid slot : ℕ) (x : Service) (plan : PlantState → HeadRec → ProcRec → Planned) → records_held base ≡ records_held s → b ≡ base → pid ≡ s.user_pid
-    → IsSound s → s.in_user ≡ true → slot_by ((records_held b).exits pid) ≡ Some slot → IsPlanOf (records_held b) slot x (plan b) → Caught s slot x (plan base)
-caught_by s b base pid slot x plan held same same_pid sound in_user exit is =
+pub caught : (s t : PlantState) (how : Came) (pid slot : ℕ) (x : Service) (plan : PlantState → HeadRec → ProcRec → Planned) → t ≡ entered s how pid → pid ≡ s.user_pid
+    → IsSound s → s.in_user ≡ true → slot_by ((records_held t).exits pid) ≡ Some slot → IsPlanOf (records_held t) slot x (plan t) → Caught s slot x (plan (entered s how pid))
+caught s t how pid slot x plan same same_pid sound in_user exit is =
     let r = records_held s in
-    let records : records_held b ≡ r = ap (λ (t : PlantState). records_held t) same ∙ held in
-    let exit_held : slot_by (r.exits pid) ≡ Some slot = subst (λ (r : Records). slot_by (r.exits pid) ≡ Some slot) records exit in
+    let base = entered s how pid in
+    let exit_held : slot_by (r.exits pid) ≡ Some slot = subst (λ (t : PlantState). slot_by ((records_held t).exits pid) ≡ Some slot) same exit in
     let own : slot_by (r.exits s.user_pid) ≡ Some slot = subst (λ (n : ℕ). slot_by (r.exits n) ≡ Some slot) same_pid exit_held in
-    let plan_base : IsPlanOf r slot x (plan base) = subst (λ (t : PlantState). IsPlanOf r slot x (plan t)) same (subst (λ (r : Records). IsPlanOf r slot x (plan b)) records is) in
+    let told : IsPlanOf r slot x (plan base) = subst (λ (t : PlantState). IsPlanOf (records_held t) slot x (plan t)) same is in
     let (head, is_head) = head_of s sound in
     let (process, runs) = runs_in s slot sound in_user own in
-    record { head = head; process = process; is_head = is_head; runs = runs; planned = planned_by r slot x (plan base) head process is_head runs.there.there plan_base }
-
-pub caught : (s b : PlantState) (pid slot : ℕ) (x : Service) (plan : PlantState → HeadRec → ProcRec → Planned) → b ≡ begun s → pid ≡ s.user_pid → IsSound s → s.in_user ≡ true
-    → slot_by ((records_held b).exits pid) ≡ Some slot → IsPlanOf (records_held b) slot x (plan b) → Caught s slot x (plan (begun s))
-caught s b pid slot x plan same same_pid sound in_user exit is = caught_by s b (begun s) pid slot x plan refl same same_pid sound in_user exit is
-
-pub caught_closing : (s b : PlantState) (pid slot : ℕ) (x : Service) (plan : PlantState → HeadRec → ProcRec → Planned) → b ≡ entered s came.Closing → pid ≡ s.user_pid → IsSound s
-    → s.in_user ≡ true → slot_by ((records_held b).exits pid) ≡ Some slot → IsPlanOf (records_held b) slot x (plan b) → Caught s slot x (plan (entered s came.Closing))
-caught_closing s b pid slot x plan same same_pid sound in_user exit is = caught_by s b (entered s came.Closing) pid slot x plan refl same same_pid sound in_user exit is
+    record { head = head; process = process; is_head = is_head; runs = runs; planned = planned_by r slot x (plan base) head process is_head runs.there.there told }
 
 -- what a process in user mode is in the Unix
 user_unix : (s : PlantState) (slot : ℕ) (process : ProcRec) → s.in_user ≡ true → IsRunning s slot process
@@ -134,17 +130,17 @@ unfolding unix_of
 user_live s slot process sound in_user runs = (_, caller_decodes (records_held s) (words_of s.memory) (InUser process.pid s.slice s.bank) slot process sound.held.records runs.there refl)
 
 -- the slice of a process is over
-abbrev pub slice_plan : (bank : Bank) → (slot : ℕ) → PlantState → HeadRec → ProcRec → Planned
-slice_plan bank slot b head process = PlanOnce (saved_items head slot process bank (now_of b).trap)
+abbrev pub slice_plan : (slot : ℕ) → PlantState → HeadRec → ProcRec → Planned
+slice_plan slot t head process = PlanOnce (saved_items head slot process t.bank (now_of t).trap)
 
-pub slice_ends : (s : PlantState) (slot : ℕ) (x : Service) → IsSound s → Caught s slot x (slice_plan s.bank slot (begun s)) → EndsTrap (records_held s) (risen s.traps) (plan_of x)
+pub slice_ends : (s : PlantState) (slot : ℕ) (x : Service) → IsSound s → Caught s slot x (slice_plan slot (begun s)) → EndsTrap (records_held s) (risen s.traps) (plan_of x)
 slice_ends s slot x sound is = subst (λ (plan : Planned). EndsTrap (records_held s) (risen s.traps) plan) (sym is.planned)
     (saved_ends (records_held s) is.head slot is.process s.bank (risen s.traps) sound.held.records sound.held.in_writes is.is_head is.runs.there is.runs.outside)
 
-pub slice_made : (s new : PlantState) (slot : ℕ) (x : Service) → MayTrap s → s.in_user ≡ true → Caught s slot x (slice_plan s.bank slot (begun s))
-    → IsDoable (records_held s) (words_of s.memory) slot x → IsEnded (begun s) slot (plan_of x) new → IsSound new → IsTrapMade s new (trapped (unix_at s) s.user_pid) 1
-slice_made s new slot x may in_user is doable ended settled =
-    trap_made s new slot is.process x (trapped (unix_at s) s.user_pid) may.sound may.left may.few is.runs.there.there doable
+pub slice_made : (s new : PlantState) (pid slot : ℕ) (x : Service) → MayTrap s came.User → s.in_user ≡ true → Caught s slot x (slice_plan slot (begun s))
+    → IsDoable (records_held s) (words_of s.memory) slot x → IsEnded (entered s came.User pid) slot (plan_of x) new → IsSound new → IsTrapMade s new (trapped (unix_at s) s.user_pid) 1
+slice_made s new pid slot x may in_user is doable ended settled =
+    trap_made s new came.User pid slot is.process x (trapped (unix_at s) s.user_pid) may is.runs.there.there doable
     (λ done tapes served.
     let made : IsDone (records_held s) (words_of s.memory) (tapes_of s) slot is.process (PlanOnce (saved_items is.head slot is.process s.bank (risen s.traps))) done tapes =
     subst (λ (plan : Planned). IsDone (records_held s) (words_of s.memory) (tapes_of s) slot is.process plan done tapes) is.planned served in
@@ -175,15 +171,15 @@ pub fault_ends : (s : PlantState) (slot status : ℕ) (x : Service) → IsSound 
 fault_ends s slot status x sound word is = subst (λ (plan : Planned). EndsTrap (records_held s) (risen s.traps) plan) (sym is.planned)
     (ended_ends (records_held s) is.head slot is.process status (risen s.traps) sound.held.records sound.held.in_writes is.is_head is.runs.there word)
 
-pub fault_made : (s new : PlantState) (slot status : ℕ) (x : Service) → MayTrap s → s.in_user ≡ true → IsStatus status → Caught s slot x (fault_plan slot status (begun s))
-    → IsDoable (records_held s) (words_of s.memory) slot x → IsEnded (begun s) slot (plan_of x) new → IsSound new
+pub fault_made : (s new : PlantState) (pid slot status : ℕ) (x : Service) → MayTrap s came.User → s.in_user ≡ true → IsStatus status → Caught s slot x (fault_plan slot status (begun s))
+    → IsDoable (records_held s) (words_of s.memory) slot x → IsEnded (entered s came.User pid) slot (plan_of x) new → IsSound new
     → IsTrapOf s new s.user_pid (λ p. ended_as (trapped (unix_at s) s.user_pid) s.user_pid p status)
-fault_made s new slot status x may in_user word is doable ended settled =
+fault_made s new pid slot status x may in_user word is doable ended settled =
     let (p, live) = user_live s slot is.process may.sound in_user is.runs in
     let context = InUser is.process.pid s.slice s.bank in
     let u = unix_of (records_held s) (words_of s.memory) (tapes_of s) context s.steps s.traps in
     user_trap_of s new slot is.process (λ u pid p. ended_as (trapped u pid) pid p status) p in_user is.runs live
-    (trap_made s new slot is.process x (ended_as (trapped u is.process.pid) is.process.pid p status) may.sound may.left may.few is.runs.there.there doable
+    (trap_made s new came.User pid slot is.process x (ended_as (trapped u is.process.pid) is.process.pid p status) may is.runs.there.there doable
     (λ done tapes served.
     let made : IsDone (records_held s) (words_of s.memory) (tapes_of s) slot is.process (PlanOnce (ended_items is.head slot is.process status (risen s.traps))) done tapes =
     subst (λ (plan : Planned). IsDone (records_held s) (words_of s.memory) (tapes_of s) slot is.process plan done tapes) is.planned served in
@@ -194,27 +190,27 @@ fault_made s new slot status x may in_user word is doable ended settled =
     ended settled)
 
 -- a process makes a call
-abbrev pub call_plan : (bank : Bank) → (slot : ℕ) → PlantState → HeadRec → ProcRec → Planned
-call_plan bank slot b head process = planned_call (records_held b) (words_of b.memory) slot (now_of b).trap head process bank
+abbrev pub call_plan : (slot : ℕ) → PlantState → HeadRec → ProcRec → Planned
+call_plan slot t head process = planned_call (records_held t) (words_of t.memory) slot (now_of t).trap head process t.bank
 
-pub call_ends_trap : (s : PlantState) (slot : ℕ) (x : Service) → IsSound s → Caught s slot x (call_plan s.bank slot (begun s)) → EndsTrap (records_held s) (risen s.traps) (plan_of x)
+pub call_ends_trap : (s : PlantState) (slot : ℕ) (x : Service) → IsSound s → Caught s slot x (call_plan slot (begun s)) → EndsTrap (records_held s) (risen s.traps) (plan_of x)
 call_ends_trap s slot x sound is = subst (λ (plan : Planned). EndsTrap (records_held s) (risen s.traps) plan) (sym is.planned)
-    (call_ends (records_held s) (words_of s.memory) slot (risen s.traps) is.head is.process s.bank sound.held.records sound.held.in_writes is.is_head is.runs.there
+    (call_ends (records_held s) (words_of s.memory) slot (risen s.traps) is.head is.process s.bank sound.held.records sound.held.in_writes is.is_head is.runs.there is.runs.outside
     (eight_held s slot is.process is.runs.there.there))
 
-pub call_made : (s new : PlantState) (slot : ℕ) (x : Service) → MayTrap s → s.in_user ≡ true → Caught s slot x (call_plan s.bank slot (begun s))
-    → IsDoable (records_held s) (words_of s.memory) slot x → IsEnded (begun s) slot (plan_of x) new → IsSound new
+pub call_made : (s new : PlantState) (pid slot : ℕ) (x : Service) → MayTrap s came.Call → s.in_user ≡ true → Caught s slot x (call_plan slot (begun s))
+    → IsDoable (records_held s) (words_of s.memory) slot x → IsEnded (entered s came.Call pid) slot (plan_of x) new → IsSound new
     → IsTrapOf s new s.user_pid (call_entered (unix_at s) s.user_pid)
-call_made s new slot x may in_user is doable ended settled =
+call_made s new pid slot x may in_user is doable ended settled =
     let (p, live) = user_live s slot is.process may.sound in_user is.runs in
     let u = unix_of (records_held s) (words_of s.memory) (tapes_of s) (InUser is.process.pid s.slice s.bank) s.steps s.traps in
     user_trap_of s new slot is.process call_entered p in_user is.runs live
-    (trap_made s new slot is.process x (call_entered u is.process.pid p) may.sound may.left may.few is.runs.there.there doable
+    (trap_made s new came.Call pid slot is.process x (call_entered u is.process.pid p) may is.runs.there.there doable
     (λ done tapes served.
     let made : IsDone (records_held s) (words_of s.memory) (tapes_of s) slot is.process (planned_call (records_held s) (words_of s.memory) slot (risen s.traps) is.head is.process s.bank) done tapes =
     subst (λ (plan : Planned). IsDone (records_held s) (words_of s.memory) (tapes_of s) slot is.process plan done tapes) is.planned served in
     entered_then (records_held s) (words_of s.memory) (tapes_of s) slot (risen s.traps) s.slice is.head is.process s.bank s.steps s.traps p done tapes
-    may.sound.held.records may.sound.held.on_terminals is.is_head is.runs.there live made)
+    may.sound.held.records is.is_head is.runs.there live made)
     ended settled)
 
 -- the head, and the plan of a trap of a process in the kernel
@@ -223,12 +219,13 @@ pub record CaughtIn (s : PlantState) (slot : ℕ) (process : ProcRec) (x : Servi
   pub is_head : (records_held s).head ≡ Some head
   pub planned : plan_of x ≡ plan head process
 
-pub caught_in : (s b : PlantState) (slot : ℕ) (process : ProcRec) (x : Service) (plan : PlantState → HeadRec → ProcRec → Planned) → b ≡ begun s → IsSound s → IsIn (records_held s) slot process
-    → IsPlanOf (records_held b) slot x (plan b) → CaughtIn s slot process x (plan (begun s))
-caught_in s b slot process x plan same sound is planned =
-    let plan_begun : IsPlanOf (records_held s) slot x (plan (begun s)) = subst (λ (t : PlantState). IsPlanOf (records_held t) slot x (plan t)) same planned in
+pub caught_in : (s t : PlantState) (how : Came) (pid slot : ℕ) (process : ProcRec) (x : Service) (plan : PlantState → HeadRec → ProcRec → Planned) → t ≡ entered s how pid → IsSound s
+    → IsIn (records_held s) slot process → IsPlanOf (records_held t) slot x (plan t) → CaughtIn s slot process x (plan (entered s how pid))
+caught_in s t how pid slot process x plan same sound is planned =
+    let base = entered s how pid in
+    let told : IsPlanOf (records_held s) slot x (plan base) = subst (λ (t : PlantState). IsPlanOf (records_held t) slot x (plan t)) same planned in
     let (head, is_head) = head_of s sound in
-    record { head = head; is_head = is_head; planned = planned_by (records_held s) slot x (plan (begun s)) head process is_head is.there plan_begun }
+    record { head = head; is_head = is_head; planned = planned_by (records_held s) slot x (plan base) head process is_head is.there told }
 
 -- what a plant in the kernel stands for
 pub kernel_unix : (s : PlantState) → s.in_user ≡ false → unix_of (records_held s) (words_of s.memory) (tapes_of s) InKernel s.steps s.traps ≡ unix_at s
@@ -245,29 +242,28 @@ pub live_at : (s : PlantState) (slot : ℕ) (process : ProcRec) → IsSound s �
 live_at s slot process sound in_kernel is =
     subst (λ (u : Unix). u.processes process.pid ≡ Some (process_of (records_held s) (words_of s.memory) slot process)) (kernel_unix s in_kernel) (kernel_live s slot process sound is)
 
--- a further piece of a write
+-- a further piece of a call
 abbrev pub piece_plan : (slot : ℕ) → PlantState → HeadRec → ProcRec → Planned
 piece_plan slot b head process = planned_piece (records_held b) (words_of b.memory) slot (now_of b).trap head process
 
 pub piece_ends_trap : (s : PlantState) (slot : ℕ) (process : ProcRec) (x : Service) → IsSound s → IsIn (records_held s) slot process → process.state ≡ 2
     → CaughtIn s slot process x (piece_plan slot (begun s)) → EndsTrap (records_held s) (risen s.traps) (plan_of x)
 piece_ends_trap s slot process x sound is state of = subst (λ (plan : Planned). EndsTrap (records_held s) (risen s.traps) plan) (sym of.planned)
-    (piece_ends (records_held s) (words_of s.memory) slot (risen s.traps) of.head process sound.held.records sound.held.in_writes of.is_head is state (sound.held.in_writes.each slot process is state))
+    (piece_ends (records_held s) (words_of s.memory) slot (risen s.traps) of.head process sound.held.records sound.held.in_writes of.is_head is state)
 
-pub piece_made : (s new : PlantState) (slot : ℕ) (process : ProcRec) (x : Service) → MayTrap s → s.in_user ≡ false → IsIn (records_held s) slot process → process.state ≡ 2
-    → CaughtIn s slot process x (piece_plan slot (begun s)) → IsDoable (records_held s) (words_of s.memory) slot x → IsEnded (begun s) slot (plan_of x) new → IsSound new
+pub piece_made : (s new : PlantState) (pid slot : ℕ) (process : ProcRec) (x : Service) → MayTrap s came.Kernel → s.in_user ≡ false → IsIn (records_held s) slot process → process.state ≡ 2
+    → CaughtIn s slot process x (piece_plan slot (begun s)) → IsDoable (records_held s) (words_of s.memory) slot x → IsEnded (entered s came.Kernel pid) slot (plan_of x) new → IsSound new
     → IsTrapOf s new process.pid (piece_of (unix_at s) process.pid)
-piece_made s new slot process x may in_kernel is state of doable ended settled =
-    let p = process_of (records_held s) (words_of s.memory) slot process in
-    let call = may.sound.held.in_writes.each slot process is state in (
+piece_made s new pid slot process x may in_kernel is state of doable ended settled =
+    let p = process_of (records_held s) (words_of s.memory) slot process in (
       p,
       live_at s slot process may.sound in_kernel is,
-      trap_made s new slot process x (piece_of (unix_at s) process.pid p) may.sound may.left may.few is.there doable
+      trap_made s new came.Kernel pid slot process x (piece_of (unix_at s) process.pid p) may is.there doable
           (λ done tapes served.
           let made : IsDone (records_held s) (words_of s.memory) (tapes_of s) slot process (planned_piece (records_held s) (words_of s.memory) slot (risen s.traps) of.head process) done tapes =
           subst (λ (plan : Planned). IsDone (records_held s) (words_of s.memory) (tapes_of s) slot process plan done tapes) of.planned served in
           goes_on_then (records_held s) (words_of s.memory) (tapes_of s) slot (risen s.traps) of.head process s.steps s.traps p done tapes
-          may.sound.held.records may.sound.held.on_terminals of.is_head is state call (kernel_live s slot process may.sound is) made
+          may.sound.held.records of.is_head is state (kernel_live s slot process may.sound is) made
           ∙ ap (λ (u : Unix). piece_of u process.pid p) (kernel_unix s in_kernel))
           ended settled,
     )
@@ -293,11 +289,11 @@ signalling_by r slot trap items head process signals signal is_head there sigs n
     IfSome (signal_by process held) (λ signal. items ≡ signal_items head slot process signals signal trap))) sigs by_process in
     subst (λ (held : Option ℕ). IfSome held (λ signal. items ≡ signal_items head slot process signals signal trap)) next by_signals
 
-pub signalling : (s b : PlantState) (slot : ℕ) (process : ProcRec) (signal : ℕ) (items : List PatchItem) → b ≡ begun s → IsSound s → IsIn (records_held s) slot process
-    → signal_by process ((records_held s).sigs slot) ≡ Some signal → IsSignalling (records_held b) slot (now_of b).trap items → Signalled s slot process items
-signalling s b slot process signal items same sound is goes signals_is =
+pub signalling : (s t : PlantState) (how : Came) (pid slot : ℕ) (process : ProcRec) (signal : ℕ) (items : List PatchItem) → t ≡ entered s how pid → IsSound s → IsIn (records_held s) slot process
+    → signal_by process ((records_held s).sigs slot) ≡ Some signal → IsSignalling (records_held t) slot (now_of t).trap items → Signalled s slot process items
+signalling s t how pid slot process signal items same sound is goes signals_is =
     let (head, is_head) = head_of s sound in
-    let (signals, there, pid) = sound.held.records.numbered.signals slot process is in
+    let (signals, there, own_pid) = sound.held.records.numbered.signals slot process is in
     let next : next_signal process signals ≡ Some signal = subst (λ (held : Option SigRec). signal_by process held ≡ Some signal) there goes in
     let own : IsSignalling (records_held s) slot (risen s.traps) items = subst (λ (t : PlantState). IsSignalling (records_held t) slot (now_of t).trap items) same signals_is in
     record {
@@ -315,9 +311,9 @@ pub signal_ends_with : (s : PlantState) (slot : ℕ) (process : ProcRec) (items 
 signal_ends_with s slot process items sound is of = subst (λ (items : List PatchItem). EndsTrap (records_held s) (risen s.traps) (PlanOnce items)) (sym of.are)
     (signal_ends_trap (records_held s) of.head slot process of.signals of.signal (risen s.traps) sound.held.records sound.held.in_writes of.is_head is of.there of.next)
 
-pub signal_made : (s new : PlantState) (slot : ℕ) (process : ProcRec) (items : List PatchItem) → MayTrap s → s.in_user ≡ false → IsIn (records_held s) slot process
-    → Signalled s slot process items → IsEnded (begun s) slot (PlanOnce items) new → IsSound new → IsSignalTaken s new process.pid
-signal_made s new slot process items may in_kernel is of ended settled =
+pub signal_made : (s new : PlantState) (pid slot : ℕ) (process : ProcRec) (items : List PatchItem) → MayTrap s came.Kernel → s.in_user ≡ false → IsIn (records_held s) slot process
+    → Signalled s slot process items → IsEnded (entered s came.Kernel pid) slot (PlanOnce items) new → IsSound new → IsSignalTaken s new process.pid
+signal_made s new pid slot process items may in_kernel is of ended settled =
     let r = records_held s in
     let words = words_of s.memory in
     let p = process_of r words slot process in
@@ -328,7 +324,7 @@ signal_made s new slot process items may in_kernel is of ended settled =
       (
         of.signal,
         goes,
-        once_made s (begun s) new slot 1 items (signalled (unix_at s) process.pid p of.signal) refl (one_step s may.sound may.left) (one_trap s may.few) (begun_same s)
+        once_made s (entered s came.Kernel pid) new slot 1 items (signalled (unix_at s) process.pid p of.signal) refl (one_step s came.Kernel pid may) (one_trap s came.Kernel pid may.few) (same_entered s came.Kernel pid)
             (ap (λ (items : List PatchItem). unix_of (with_items r items) words (tapes_of s) InKernel (s.steps + 1) (s.traps + 1)) of.are
             ∙ (signal_unix r of.head slot process of.signals of.signal (risen s.traps) words (tapes_of s) s.steps s.traps may.sound.held.records of.is_head is of.there range.0 range.1
             ∙ ap (λ (u : Unix). signalled u process.pid p of.signal) (kernel_unix s in_kernel)))
@@ -342,58 +338,55 @@ pub record Served (s : PlantState) (items : List PatchItem) : Type 0 where
   pub is_head : (records_held s).head ≡ Some head
   pub are : items ≡ served_items head (risen s.traps)
 
-pub only_head : (s b base : PlantState) (items : List PatchItem) → records_held base ≡ records_held s → (now_of base).trap ≡ risen s.traps → b ≡ base → IsSound s
-    → IfSome (records_held b).head (λ head. items ≡ served_items head (now_of b).trap) → Served s items
-only_head s b base items held trap same sound is =
+pub only_head : (s t : PlantState) (how : Came) (pid : ℕ) (items : List PatchItem) → t ≡ entered s how pid → IsSound s
+    → IfSome (records_held t).head (λ head. items ≡ served_items head (now_of t).trap) → Served s items
+only_head s t how pid items same sound is =
     let (head, is_head) = head_of s sound in
-    let records : records_held b ≡ records_held s = ap (λ (t : PlantState). records_held t) same ∙ held in
-    let at : (now_of b).trap ≡ risen s.traps = ap (λ (t : PlantState). (now_of t).trap) same ∙ trap in
-    let own : (records_held b).head ≡ Some head = ap (λ (r : Records). r.head) records ∙ is_head in
-    let said : items ≡ served_items head (now_of b).trap = subst (λ (held : Option HeadRec). IfSome held (λ head. items ≡ served_items head (now_of b).trap)) own is in
-    record { head = head; is_head = is_head; are = said ∙ ap (λ (n : ℕ). served_items head n) at }
+    let told : IfSome (records_held s).head (λ head. items ≡ served_items head (risen s.traps)) =
+    subst (λ (t : PlantState). IfSome (records_held t).head (λ head. items ≡ served_items head (now_of t).trap)) same is in
+    record {
+      head = head;
+      is_head = is_head;
+      are = subst (λ (held : Option HeadRec). IfSome held (λ head. items ≡ served_items head (risen s.traps))) is_head told;
+    }
 
 pub head_ends : (s : PlantState) (items : List PatchItem) → IsSound s → Served s items → EndsTrap (records_held s) (risen s.traps) (PlanOnce items)
 head_ends s items sound of = subst (λ (items : List PatchItem). EndsTrap (records_held s) (risen s.traps) (PlanOnce items)) (sym of.are)
     (served_ends (records_held s) of.head (risen s.traps) sound.held.records sound.held.in_writes of.is_head)
 
-pub idle_made : (s new : PlantState) (slot : ℕ) (items : List PatchItem) → MayTrap s → s.in_user ≡ false → Served s items → IsEnded (begun s) slot (PlanOnce items) new → IsSound new
+pub idle_made : (s new : PlantState) (pid slot : ℕ) (items : List PatchItem) → MayTrap s came.Kernel → s.in_user ≡ false → Served s items → IsEnded (entered s came.Kernel pid) slot (PlanOnce items) new → IsSound new
     → IsTrapMade s new (idled (unix_at s)) 1
-idle_made s new slot items may in_kernel of ended settled =
-    once_made s (begun s) new slot 1 items (idled (unix_at s)) refl (one_step s may.sound may.left) (one_trap s may.few) (begun_same s)
+idle_made s new pid slot items may in_kernel of ended settled =
+    once_made s (entered s came.Kernel pid) new slot 1 items (idled (unix_at s)) refl (one_step s came.Kernel pid may) (one_trap s came.Kernel pid may.few) (same_entered s came.Kernel pid)
     (ap (λ (items : List PatchItem). unix_of (with_items (records_held s) items) (words_of s.memory) (tapes_of s) InKernel (s.steps + 1) (s.traps + 1)) of.are
     ∙ (idle_unix (records_held s) of.head (risen s.traps) (words_of s.memory) of.is_head (tapes_of s) s.steps s.traps
     ∙ ap idled (kernel_unix s in_kernel)))
     ended settled
 
 -- the closing trap
-closing_traps : (s : PlantState) → s.traps < 2 ^ 32 - 2 → (entered s came.Closing).traps ≡ s.traps + 1
-closing_traps s few = omega (arith, few)
+closing_steps : (s : PlantState) (pid : ℕ) → (entered s came.Closing pid).steps ≡ s.steps + 0
+closing_steps s pid = omega arith
 
-closing_steps : (s : PlantState) → (entered s came.Closing).steps ≡ s.steps + 0
-closing_steps s = omega arith
+pub trap_closing : (s t : PlantState) (pid : ℕ) (items : List PatchItem) → t ≡ entered s came.Closing pid → IsSound s → s.traps < 2 ^ 32 - 2
+    → (steps : ℕ) × IsInTrap t steps × HasStep (PlanOnce items) steps t.steps
+trap_closing s t pid items same sound few = subst (λ (t : PlantState). (steps : ℕ) × IsInTrap t steps × Unit {0}) (sym same) (s.steps, closing_begins s pid sound few, tt)
 
-pub trap_closing : (s t : PlantState) (items : List PatchItem) → t ≡ entered s came.Closing → IsSound s → s.traps < 2 ^ 32 - 2 → (steps : ℕ) × IsInTrap t steps × HasStep (PlanOnce items) steps t.steps
-trap_closing s t items same sound few = subst (λ (t : PlantState). (steps : ℕ) × IsInTrap t steps × Unit {0}) (sym same) (s.steps, closing_begins s sound few, tt)
-
-pub ends_closing : (s t : PlantState) (plan : Planned) → t ≡ entered s came.Closing → EndsTrap (records_held s) (risen s.traps) plan → EndsTrap (records_held t) t.traps plan
-ends_closing s t plan same ends = subst (λ (t : PlantState). EndsTrap (records_held t) t.traps plan) (sym same) ends
-
-pub closed_made : (s new : PlantState) (slot : ℕ) (items : List PatchItem) → IsSound s → s.traps < 2 ^ 32 - 2 → s.in_user ≡ false → Served s items
-    → IsEnded (entered s came.Closing) slot (PlanOnce items) new → IsSound new → IsTrapMade s new (closed (unix_at s)) 0
-closed_made s new slot items sound few in_kernel of ended settled =
-    once_made s (entered s came.Closing) new slot 0 items (closed (unix_at s)) refl (closing_steps s) (closing_traps s few) (record { shape = refl; points = refl; live = refl; history = refl })
+pub closed_made : (s new : PlantState) (pid slot : ℕ) (items : List PatchItem) → IsSound s → s.traps < 2 ^ 32 - 2 → s.in_user ≡ false → Served s items
+    → IsEnded (entered s came.Closing pid) slot (PlanOnce items) new → IsSound new → IsTrapMade s new (closed (unix_at s)) 0
+closed_made s new pid slot items sound few in_kernel of ended settled =
+    once_made s (entered s came.Closing pid) new slot 0 items (closed (unix_at s)) refl (closing_steps s pid) (one_trap s came.Closing pid few) (same_entered s came.Closing pid)
     (ap (λ (items : List PatchItem). unix_of (with_items (records_held s) items) (words_of s.memory) (tapes_of s) InKernel (s.steps + 0) (s.traps + 1)) of.are
     ∙ (ap (λ (n : ℕ). unix_of (with_items (records_held s) (served_items of.head (risen s.traps))) (words_of s.memory) (tapes_of s) InKernel n (s.traps + 1)) (let same : s.steps + 0 ≡ s.steps = omega arith in same)
     ∙ (closed_unix (records_held s) of.head (risen s.traps) (words_of s.memory) of.is_head (tapes_of s) s.steps s.traps
     ∙ ap closed (kernel_unix s in_kernel))))
     ended settled
 
-pub user_closed : (s new : PlantState) (slot : ℕ) (x : Service) → IsSound s → s.traps < 2 ^ 32 - 2 → s.in_user ≡ true → Caught s slot x (slice_plan s.bank slot (entered s came.Closing))
-    → IsEnded (entered s came.Closing) slot (plan_of x) new → IsSound new → IsTrapMade s new (closed (unix_at s)) 0
-user_closed s new slot x sound few in_user of ended settled =
+pub user_closed : (s new : PlantState) (pid slot : ℕ) (x : Service) → IsSound s → s.traps < 2 ^ 32 - 2 → s.in_user ≡ true → Caught s slot x (slice_plan slot (begun s))
+    → IsEnded (entered s came.Closing pid) slot (plan_of x) new → IsSound new → IsTrapMade s new (closed (unix_at s)) 0
+user_closed s new pid slot x sound few in_user of ended settled =
     let items = saved_items of.head slot of.process s.bank (risen s.traps) in
-    let once : IsEnded (entered s came.Closing) slot (PlanOnce items) new = subst (λ (plan : Planned). IsEnded (entered s came.Closing) slot plan new) of.planned ended in
-    once_made s (entered s came.Closing) new slot 0 items (closed (unix_at s)) refl (closing_steps s) (closing_traps s few) (record { shape = refl; points = refl; live = refl; history = refl })
+    let once : IsEnded (entered s came.Closing pid) slot (PlanOnce items) new = subst (λ (plan : Planned). IsEnded (entered s came.Closing pid) slot plan new) of.planned ended in
+    once_made s (entered s came.Closing pid) new slot 0 items (closed (unix_at s)) refl (closing_steps s pid) (one_trap s came.Closing pid few) (same_entered s came.Closing pid)
     (ap (λ (n : ℕ). unix_of (with_items (records_held s) items) (words_of s.memory) (tapes_of s) InKernel n (s.traps + 1)) (let same : s.steps + 0 ≡ s.steps = omega arith in same)
     ∙ (closed_in_user (records_held s) of.head slot of.process s.bank (risen s.traps) (words_of s.memory) (tapes_of s) s.slice s.steps s.traps
     sound.held.records of.is_head of.runs.there of.runs.outside
@@ -406,57 +399,40 @@ pub made_ok : {T E : Type 0} (r : Result T E) (s t new : PlantState) (slot : ℕ
 made_ok (Ok x) s t new slot plan Made same ended sound made = made (subst (λ (t : PlantState). IsEnded t slot plan new) same ended) sound
 made_ok (Err e) s t new slot plan Made same ended sound made = tt
 
-pub doable_still : (s b : PlantState) (slot : ℕ) (x : Service) → b ≡ begun s → IsDoable (records_held b) (words_of b.memory) slot x → IsDoable (records_held s) (words_of s.memory) slot x
-doable_still s b slot x same doable = subst (λ (t : PlantState). IsDoable (records_held t) (words_of t.memory) slot x) same doable
+pub doable_still : (s t : PlantState) (how : Came) (pid slot : ℕ) (x : Service) → t ≡ entered s how pid → IsDoable (records_held t) (words_of t.memory) slot x
+    → IsDoable (records_held s) (words_of s.memory) slot x
+doable_still s t how pid slot x same doable = subst (λ (t : PlantState). IsDoable (records_held t) (words_of t.memory) slot x) same doable
 
-pub slice_caught : (s b : PlantState) (pid slot : ℕ) (bank : Bank) (x : Service) → b ≡ begun s → pid ≡ s.user_pid → bank ≡ s.bank → IsSound s → s.in_user ≡ true
-    → slot_by ((records_held b).exits pid) ≡ Some slot → IsPlanOf (records_held b) slot x (slice_plan bank slot b) → Caught s slot x (slice_plan s.bank slot (begun s))
-slice_caught s b pid slot bank x same same_pid same_bank sound in_user exit is =
-    caught s b pid slot x (slice_plan s.bank slot) same same_pid sound in_user exit (subst (λ (k : Bank). IsPlanOf (records_held b) slot x (slice_plan k slot b)) same_bank is)
-
-pub closing_caught : (s b : PlantState) (pid slot : ℕ) (bank : Bank) (x : Service) → b ≡ entered s came.Closing → pid ≡ s.user_pid → bank ≡ s.bank → IsSound s → s.in_user ≡ true
-    → slot_by ((records_held b).exits pid) ≡ Some slot → IsPlanOf (records_held b) slot x (slice_plan bank slot b) → Caught s slot x (slice_plan s.bank slot (entered s came.Closing))
-closing_caught s b pid slot bank x same same_pid same_bank sound in_user exit is =
-    caught_closing s b pid slot x (slice_plan s.bank slot) same same_pid sound in_user exit (subst (λ (k : Bank). IsPlanOf (records_held b) slot x (slice_plan k slot b)) same_bank is)
-
-pub call_caught : (s b : PlantState) (pid slot : ℕ) (bank : Bank) (x : Service) → b ≡ begun s → pid ≡ s.user_pid → bank ≡ s.bank → IsSound s → s.in_user ≡ true
-    → slot_by ((records_held b).exits pid) ≡ Some slot → IsPlanOf (records_held b) slot x (call_plan bank slot b) → Caught s slot x (call_plan s.bank slot (begun s))
-call_caught s b pid slot bank x same same_pid same_bank sound in_user exit is =
-    caught s b pid slot x (call_plan s.bank slot) same same_pid sound in_user exit (subst (λ (k : Bank). IsPlanOf (records_held b) slot x (call_plan k slot b)) same_bank is)
-
-pub fault_caught : (s b : PlantState) (pid slot status : ℕ) (x : Service) → b ≡ begun s → pid ≡ s.user_pid → IsSound s → s.in_user ≡ true
-    → slot_by ((records_held b).exits pid) ≡ Some slot → IsPlanOf (records_held b) slot x (fault_plan slot status b) → Caught s slot x (fault_plan slot status (begun s))
-fault_caught s b pid slot status x same same_pid sound in_user exit is = caught s b pid slot x (fault_plan slot status) same same_pid sound in_user exit is
-
--- a trap that writes nothing
-pub once_begun : (s t : PlantState) → t ≡ begun s → MayTrap s → (steps : ℕ) × IsInTrap t steps × Unit {0}
-once_begun s t same may = subst (λ (t : PlantState). (steps : ℕ) × IsInTrap t steps × Unit {0}) (sym same) (s.steps, begins s may.sound may.left may.few, tt)
-
-pub trap_closing_once : (s t : PlantState) (slot : ℕ) (x : Service) → t ≡ entered s came.Closing → IsSound s → s.traps < 2 ^ 32 - 2 → Caught s slot x (slice_plan s.bank slot (entered s came.Closing))
-    → (steps : ℕ) × IsInTrap t steps × HasStep (plan_of x) steps t.steps
-trap_closing_once s t slot x same sound few is = subst (λ (plan : Planned). (steps : ℕ) × IsInTrap t steps × HasStep plan steps t.steps) (sym is.planned)
-    (trap_closing s t (saved_items is.head slot is.process s.bank (risen s.traps)) same sound few)
-
-pub user_closing_ends : (s : PlantState) (slot : ℕ) (x : Service) → IsSound s → Caught s slot x (slice_plan s.bank slot (entered s came.Closing)) → EndsTrap (records_held s) (risen s.traps) (plan_of x)
-user_closing_ends s slot x sound is = subst (λ (plan : Planned). EndsTrap (records_held s) (risen s.traps) plan) (sym is.planned)
-    (saved_ends (records_held s) is.head slot is.process s.bank (risen s.traps) sound.held.records sound.held.in_writes is.is_head is.runs.there is.runs.outside)
+pub trap_closing_once : (s t : PlantState) (pid slot : ℕ) (x : Service) → t ≡ entered s came.Closing pid → IsSound s → s.traps < 2 ^ 32 - 2
+    → Caught s slot x (slice_plan slot (begun s)) → (steps : ℕ) × IsInTrap t steps × HasStep (plan_of x) steps t.steps
+trap_closing_once s t pid slot x same sound few is = subst (λ (plan : Planned). (steps : ℕ) × IsInTrap t steps × HasStep plan steps t.steps) (sym is.planned)
+    (trap_closing s t pid (saved_items is.head slot is.process s.bank (risen s.traps)) same sound few)
 
 -- of a process in the kernel
-pub piece_ends_then : (s b : PlantState) (slot : ℕ) (x : Service) → b ≡ begun s → IsSound s → IsInCallIn (records_held s) slot → IsPlanOf (records_held b) slot x (piece_plan slot b)
-    → EndsTrap (records_held s) (risen s.traps) (plan_of x)
-piece_ends_then s b slot x same sound (process, is, state) planned = piece_ends_trap s slot process x sound is state (caught_in s b slot process x (piece_plan slot) same sound is planned)
+pub piece_ends_then : (s t : PlantState) (pid slot : ℕ) (x : Service) → t ≡ entered s came.Kernel pid → IsSound s → IsInCallIn (records_held s) slot
+    → IsPlanOf (records_held t) slot x (piece_plan slot t) → EndsTrap (records_held t) t.traps (plan_of x)
+piece_ends_then s t pid slot x same sound (process, is, state) planned =
+    ends_begun s t came.Kernel pid (plan_of x) same
+    (piece_ends_trap s slot process x sound is state (caught_in s t came.Kernel pid slot process x (piece_plan slot) same sound is planned))
 
-pub piece_made_then : (s b new : PlantState) (slot : ℕ) (x : Service) → b ≡ begun s → MayTrap s → s.in_user ≡ false → IsInCallIn (records_held s) slot
-    → IsPlanOf (records_held b) slot x (piece_plan slot b) → IsDoable (records_held b) (words_of b.memory) slot x → IsEnded (begun s) slot (plan_of x) new → IsSound new → IsPieceTrap s new slot
-piece_made_then s b new slot x same may in_kernel (process, is, state) planned doable ended settled =
-    (process, is, piece_made s new slot process x may in_kernel is state (caught_in s b slot process x (piece_plan slot) same may.sound is planned) (doable_still s b slot x same doable) ended settled)
+pub piece_made_then : (s t new : PlantState) (pid slot : ℕ) (x : Service) → t ≡ entered s came.Kernel pid → MayTrap s came.Kernel → s.in_user ≡ false → IsInCallIn (records_held s) slot
+    → IsPlanOf (records_held t) slot x (piece_plan slot t) → IsDoable (records_held t) (words_of t.memory) slot x → IsEnded (entered s came.Kernel pid) slot (plan_of x) new → IsSound new
+    → IsPieceTrap s new slot
+piece_made_then s t new pid slot x same may in_kernel (process, is, state) planned doable ended settled = (
+  process,
+  is,
+  piece_made s new pid slot process x may in_kernel is state (caught_in s t came.Kernel pid slot process x (piece_plan slot) same may.sound is planned)
+      (doable_still s t came.Kernel pid slot x same doable) ended settled,
+)
 
-pub signal_ends_then : (s b : PlantState) (slot : ℕ) (items : List PatchItem) → b ≡ begun s → IsSound s → HasSignalIn (records_held s) slot → IsSignalling (records_held b) slot (now_of b).trap items
-    → EndsTrap (records_held s) (risen s.traps) (PlanOnce items)
-signal_ends_then s b slot items same sound (process, is, (signal, goes)) planned =
-    signal_ends_with s slot process items sound is (signalling s b slot process signal items same sound is goes planned)
+pub signal_ends_then : (s t : PlantState) (pid slot : ℕ) (items : List PatchItem) → t ≡ entered s came.Kernel pid → IsSound s → HasSignalIn (records_held s) slot
+    → IsSignalling (records_held t) slot (now_of t).trap items → EndsTrap (records_held t) t.traps (PlanOnce items)
+signal_ends_then s t pid slot items same sound (process, is, (signal, goes)) planned =
+    ends_begun s t came.Kernel pid (PlanOnce items) same
+    (signal_ends_with s slot process items sound is (signalling s t came.Kernel pid slot process signal items same sound is goes planned))
 
-pub signal_made_then : (s b new : PlantState) (slot : ℕ) (items : List PatchItem) → b ≡ begun s → MayTrap s → s.in_user ≡ false → HasSignalIn (records_held s) slot
-    → IsSignalling (records_held b) slot (now_of b).trap items → IsEnded (begun s) slot (PlanOnce items) new → IsSound new → IsSignalTrap s new slot
-signal_made_then s b new slot items same may in_kernel (process, is, (signal, goes)) planned ended settled =
-    (process, is, signal_made s new slot process items may in_kernel is (signalling s b slot process signal items same may.sound is goes planned) ended settled)
+pub signal_made_then : (s t new : PlantState) (pid slot : ℕ) (items : List PatchItem) → t ≡ entered s came.Kernel pid → MayTrap s came.Kernel → s.in_user ≡ false
+    → HasSignalIn (records_held s) slot → IsSignalling (records_held t) slot (now_of t).trap items → IsEnded (entered s came.Kernel pid) slot (PlanOnce items) new → IsSound new
+    → IsSignalTrap s new slot
+signal_made_then s t new pid slot items same may in_kernel (process, is, (signal, goes)) planned ended settled =
+    (process, is, signal_made s new pid slot process items may in_kernel is (signalling s t came.Kernel pid slot process signal items same may.sound is goes planned) ended settled)

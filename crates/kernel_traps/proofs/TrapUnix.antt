@@ -1,8 +1,9 @@
 -- What a plant stands for once the plan of a trap is carried out and the trap has ended.
-use Rattle.std.proofs.Common.{◌≡◌, ◌∙◌, ◌==◌, ◌+◌, ◌-◌, ◌^◌, ◌<◌, ℕ, zero, suc, false, List, length, Option, Some, None, IfSome, refl, sym, ap, arith}
+use Rattle.std.proofs.Common.{◌≡◌, ◌∙◌, ◌==◌, ◌+◌, ◌-◌, ◌^◌, ◌<◌, ◌≤◌, ℕ, zero, suc, false, List, length, Option, Some, None, IfSome, refl, sym, ap, arith}
 use Rattle.std.proofs.lemmas.Bool.{cases_Bool}
 use Rattle.std.proofs.Common.{inl, inr}
 use Rattle.ow_base.specs.Pages.{Pages, bytes_at}
+use Rattle.ow_base.specs.declared.machine.Came.{Came}
 use Rattle.phys_memory.specs.Memory.{words_of}
 use Rattle.record_layouts.specs.declared.memory_map.MemoryMap.{MemoryMap}
 use Rattle.record_layouts.specs.declared.proc.ProcRec.{ProcRec}
@@ -16,7 +17,7 @@ use Rattle.syscalls.specs.declared.service.Service.TheVariants as service
 use Rattle.syscalls.specs.Done.{IsDone}
 use Rattle.syscalls.specs.Planned.{Planned, PlanOnce, PlanWrite, pages_in}
 use Rattle.syscalls.specs.Serving.{IsDoable, plan_of}
-use Rattle.ow_plant.specs.State.{PlantState, left_trap, tty_of}
+use Rattle.ow_plant.specs.State.{PlantState, entered, left_trap, tty_of}
 use Rattle.intent_store.specs.Live.{held_of, map_of, records_held, rest_of}
 use Rattle.kernel_traps.specs.Plants.{IsInTrap, IsOfDevice, IsSound, context_of, tapes_of, unix_at}
 use Rattle.kernel_traps.specs.Putting.{with_puts}
@@ -26,7 +27,7 @@ use Rattle.kernel_traps.specs.Turning.{IsSameMachine}
 use Rattle.kernel_traps.specs.Traps.{IsTrapMade}
 use Rattle.kernel_traps.proofs.Stays.{map_held, room_held, unix_same}
 use Rattle.kernel_traps.proofs.Done.{done as write_done}
-use Rattle.kernel_traps.proofs.Entering.{begun, begins}
+use Rattle.kernel_traps.proofs.Entering.{MayTrap, begins}
 
 -- what stays of a plant while a plan is carried out
 pub record IsCarrier (old new : PlantState) : Type 0 where
@@ -121,18 +122,17 @@ told_by_device : (s : PlantState) (tty : ℕ) (held : Option TermRec) → tty < 
 told_by_device s tty (Some terminal) low is = is.counted ∙ sym (ap (λ (t : List ℕ). length t) (same_device s tty low))
 told_by_device s tty None low is = tt
 
-pub service_done : (b new : PlantState) (slot steps : ℕ) (process : ProcRec) (s : Service) → IsInTrap b steps → (records_held b).procs slot ≡ Some process
+pub service_done : (b new : PlantState) (slot steps : ℕ) (process : ProcRec) (s : Service) → IsInTrap b steps → b.shape.budget ≤ 2000000 → (records_held b).procs slot ≡ Some process
     → IsDoable (records_held b) (words_of b.memory) slot s → IsCarriedOut b slot (plan_of s) (held_of new)
     → IsDone (records_held b) (words_of b.memory) (tapes_of b) slot process (plan_of s) (records_held new) (tapes_of new)
-service_done b new slot steps process (service.Once patch) trap there doable is =
+service_done b new slot steps process (service.Once patch) trap most there doable is =
     (ap (λ (h : Held PlantState). h.records) is, ap (λ (h : Held PlantState). tapes_of h.rest) is)
-service_done b new slot steps process (service.TtyWrite tty from len patch) trap there doable is =
+service_done b new slot steps process (service.TtyWrite tty from len patch) trap most there doable is =
     let low : tty < 2 = doable.1.terminal in
-    let device = trap.terminals.bytes tty low in
     let tape : length (tapes_of b tty) ≡ length (tty_of b tty).tape = ap (λ (t : List ℕ). length t) (same_device b tty low) in
     let bytes : length (bytes_of b slot from len) ≡ len = length-bytes (pages_in (records_held b) (words_of b.memory) slot) from len in
     let room : length (tapes_of b tty) + length (bytes_of b slot from len) < 2 ^ 32 =
-    omega (arith, tape, bytes, doable.1.most, device.few, trap.counted, trap.budget, trap.most) in
+    omega (arith, tape, bytes, doable.1.most, trap.terminals.bytes tty low, trap.counted, trap.budget, most) in
     write_done b new slot tty from len patch.items.items process there low
     (told_by_device b tty ((records_held b).terms tty) low (trap.terminals.records tty low)) room is
 
@@ -169,24 +169,25 @@ made_by s b new slot made plan after kernel steps traps same law (done, out, lef
       };
     }
 
-pub one_step : (s : PlantState) → IsSound s → s.steps < s.shape.budget → (begun s).steps ≡ s.steps + 1
-one_step s sound left = omega (arith, sound.most, left)
+pub one_step : (s : PlantState) (how : Came) (pid : ℕ) → MayTrap s how → (entered s how pid).steps ≡ s.steps + 1
+one_step s how pid may = omega (arith, may.step, may.left, may.most)
 
-pub one_trap : (s : PlantState) → s.traps < 2 ^ 32 - 2 → (begun s).traps ≡ s.traps + 1
-one_trap s few = omega (arith, few)
+pub one_trap : (s : PlantState) (how : Came) (pid : ℕ) → s.traps < 2 ^ 32 - 2 → (entered s how pid).traps ≡ s.traps + 1
+one_trap s how pid few = omega (arith, few)
 
-pub begun_same : (s : PlantState) → IsSameMachine s (begun s)
-begun_same s = record { shape = refl; points = refl; live = refl; history = refl }
+pub same_entered : (s : PlantState) (how : Came) (pid : ℕ) → IsSameMachine s (entered s how pid)
+same_entered s how pid = record { shape = refl; points = refl; live = refl; history = refl }
 
 -- a trap of a process, which is a step
-pub trap_made : (s new : PlantState) (slot : ℕ) (process : ProcRec) (x : Service) (after : Unix) → IsSound s → s.steps < s.shape.budget → s.traps < 2 ^ 32 - 2
+pub trap_made : (s new : PlantState) (how : Came) (pid slot : ℕ) (process : ProcRec) (x : Service) (after : Unix) → MayTrap s how
     → (records_held s).procs slot ≡ Some process → IsDoable (records_held s) (words_of s.memory) slot x
     → ((done : Records) (tapes : ℕ → List ℕ) → IsDone (records_held s) (words_of s.memory) (tapes_of s) slot process (plan_of x) done tapes
     → unix_of done (words_of s.memory) tapes InKernel (s.steps + 1) (s.traps + 1) ≡ after)
-    → IsEnded (begun s) slot (plan_of x) new → IsSound new → IsTrapMade s new after 1
-trap_made s new slot process x after sound left few there doable law ended settled =
-    made_by s (begun s) new slot 1 (plan_of x) after refl (one_step s sound left) (one_trap s few) (begun_same s)
-    (λ done out. law (records_held done) (tapes_of done) (service_done (begun s) done slot s.steps process x (begins s sound left few) there doable out))
+    → IsEnded (entered s how pid) slot (plan_of x) new → IsSound new → IsTrapMade s new after 1
+trap_made s new how pid slot process x after may there doable law ended settled =
+    made_by s (entered s how pid) new slot 1 (plan_of x) after refl (one_step s how pid may) (one_trap s how pid may.few) (same_entered s how pid)
+    (λ done out. law (records_held done) (tapes_of done)
+    (service_done (entered s how pid) done slot s.steps process x (begins s how pid may) may.most there doable out))
     ended settled
 
 -- a trap whose records are set at once

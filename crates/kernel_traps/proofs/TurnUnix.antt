@@ -1,5 +1,5 @@
 -- What a turn of the Unix is, by what the kernel does.
-use Rattle.std.proofs.Common.{◌≡◌, ◌∙◌, ◌==◌, ◌+◌, ◌-◌, ℕ, zero, suc, nat_lt, Bool, true, false, [], ◌∷◌, slice_index, Option, Some, None, is_some, inl, inr, refl, sym, ap}
+use Rattle.std.proofs.Common.{◌≡◌, ◌∙◌, ◌==◌, ◌+◌, ℕ, zero, suc, nat_lt, Bool, true, false, [], ◌∷◌, slice_index, Option, Some, None, is_some, inl, inr, refl, sym, ap}
 use Rattle.std.proofs.lemmas.Bool.{cases_Bool}
 use Rattle.ow_base.specs.UserStep.{Call, Faulted}
 use Rattle.ow_base.specs.declared.machine.Bank.{Bank}
@@ -7,12 +7,12 @@ use Rattle.ow_base.specs.declared.machine.Fault.{Fault}
 use Rattle.phys_memory.specs.Memory.{words_of}
 use Rattle.record_layouts.specs.declared.proc.ProcRec.{ProcRec}
 use Rattle.record_layouts.specs.Calls.{ended_as, entered, piece_of, trapped}
-use Rattle.record_layouts.specs.Choice.{Keys, chosen, deliverable, is_any_live, live_or, no_keys, returned_as, returned_to as unix_returned_to, settled, settled_at, settled_on}
-use Rattle.record_layouts.specs.Decode.{Context, InKernel, InUser, next_by, process_at, processes_of, unix_of, with_bank}
+use Rattle.record_layouts.specs.Choice.{Keys, chosen, deliverable, has_live_process, is_any_live, live_or, no_keys, returned_as, returned_to as unix_returned_to, settled, settled_at, settled_on}
+use Rattle.record_layouts.specs.Decode.{Context, InKernel, InUser, process_at, processes_of, unix_of, with_bank}
 use Rattle.record_layouts.specs.Signals.{signalled}
 use Rattle.record_layouts.specs.Sound.{IsIn, AreSound}
 use Rattle.record_layouts.specs.Turn.{idled, served_if_live, served_or_idle, signal_or_piece, step_of, stepped, turn, turn_at, user_turn}
-use Rattle.record_layouts.specs.Unix.{AtKernel, AtUser, In, Out, Process, Unix}
+use Rattle.record_layouts.specs.Unix.{AtKernel, AtUser, In, Out, Process, Unix, most_pids}
 use Rattle.process_table.specs.Choosing.{IsChosen, IsNone, IsRest, keys_of}
 use Rattle.process_table.specs.Slots.{has_such, is_live_one}
 use Rattle.process_table.proofs.Chosen.{any_live_is, chosen_is, none_chosen}
@@ -149,10 +149,10 @@ user_lives s (InUser user count bank) pid = elim (cases_Bool (pid == user)) [
   | inr other ↦ rw other refl
 ]
 
-any_live : (s : PlantState) → AreSound (records_held s) → is_any_live (unix_at s).processes 1 ((unix_at s).next_pid - 1) ≡ has_such (records_held s) is_live_one
+any_live : (s : PlantState) → AreSound (records_held s) → has_live_process (unix_at s) ≡ has_such (records_held s) is_live_one
 unfolding unix_at unix_of
 any_live s sound =
-    live_same (processes_of (records_held s) (words_of s.memory) (context_of s)) (processes_of (records_held s) (words_of s.memory) InKernel) 1 (next_by (records_held s).head - 1) (user_lives s (context_of s))
+    live_same (processes_of (records_held s) (words_of s.memory) (context_of s)) (processes_of (records_held s) (words_of s.memory) InKernel) 1 most_pids (user_lives s (context_of s))
     ∙ any_live_is (records_held s) (words_of s.memory) (tapes_of s) s.steps s.traps sound
 
 pub not_ended : (s : PlantState) (slot : ℕ) (process : ProcRec) → IsSound s → IsIn (records_held s) slot process → AllHaveEnded s → ⊥
@@ -173,5 +173,5 @@ none_of s sound in_kernel is =
     sym (ap (λ (u : Unix). chosen no_keys u) (kernel_unix s in_kernel)) ∙ (sym (ap (λ (keys : Keys). chosen keys (unix_of (records_held s) (words_of s.memory) (tapes_of s) InKernel s.steps s.traps)) (keys_none s))
     ∙ none_chosen (records_held s) (words_of s.memory) (tapes_of s) s.steps s.traps (now_of s) sound.held.records is)
 
-pub rest_tells : (s : PlantState) (is_any : Bool) → IsSound s → IsRest (records_held s) (now_of s) is_any → is_any_live (unix_at s).processes 1 ((unix_at s).next_pid - 1) ≡ is_any
+pub rest_tells : (s : PlantState) (is_any : Bool) → IsSound s → IsRest (records_held s) (now_of s) is_any → has_live_process (unix_at s) ≡ is_any
 rest_tells s is_any sound is = any_live s sound.held.records ∙ is.1

@@ -16,14 +16,13 @@ use Rattle.record_layouts.specs.Held.{Records}
 use Rattle.record_layouts.specs.Pages.{pages_of, table_frame}
 use Rattle.record_layouts.specs.Proc.{FitsProc}
 use Rattle.record_layouts.specs.Reading.{records_in, records_of}
-use Rattle.record_layouts.specs.Sound.{AreSound, IsIn}
+use Rattle.record_layouts.specs.Sound.{AreOnTerminals, AreSound, IsIn}
 use Rattle.record_layouts.specs.Turn.{step_of, stepped, turn_at, user_turn}
 use Rattle.record_layouts.specs.Unix.{AtUser, Process, Unix}
 use Rattle.frame_table.specs.Maps.{AreOfMemory, map_of as pages_map}
 use Rattle.frame_table.proofs.Counting.{fits_there}
 use Rattle.frame_table.proofs.Found.{frame_found}
 use Rattle.frame_table.proofs.Tables.{map_tells, pages_by_tables, pages_same, tables_mapped}
-use Rattle.syscalls.specs.Serving.{AreOnTerminals}
 use Rattle.syscalls.proofs.Becoming.{caller_decodes}
 use Rattle.ow_plant.specs.State.{PlantState, Seen, StepsAs, TakesUserTurn, now_of, risen, seen_by, seen_space, tty_of}
 use Rattle.ow_plant.specs.declared.UserEnd.{UserEnd}
@@ -110,12 +109,12 @@ module _ (s : PlantState) (sound : IsSound s) (in_user : s.in_user ≡ true) (sl
       (steps_follow words_seen root_seen with_seen (IsKept s its_map) sets (seen_by s) s.bank.regs s.bank.pc first mapped runs.root small)
 
   module _ (memory : MemoryParts) (satp : ℕ) (bank : Bank)
-      (kept : IsKept s its_map (record { memory = memory; satp = satp })) (left : s.steps < s.shape.budget) where
+      (kept : IsKept s its_map (record { memory = memory; satp = satp })) (left : s.steps < s.shape.budget) (most : s.shape.budget ≤ 2000000) where
     abbrev now : PlantState
     now = after_step s memory satp bank
 
     one_more : risen s.steps ≡ s.steps + 1
-    one_more = omega (arith, left, sound.most)
+    one_more = omega (arith, left, most)
 
     by_records : (P : Records → Type 0) → P (records_held s) → P (records_held now)
     by_records P is = subst P (sym kept.records) is
@@ -135,10 +134,9 @@ module _ (s : PlantState) (sound : IsSound s) (in_user : s.in_user ≡ true) (sl
       served = by_records (λ (r : Records). IfSome r.head (λ head. head.served < (now_of s).trap)) sound.served;
       terminals = record {
         records = λ tty low. by_records (λ (r : Records). IfSome (r.terms tty) (IsOfDevice r tty (tty_of s tty))) (sound.terminals.records tty low);
-        bytes = λ tty low. let has = sound.terminals.bytes tty low in record { few = omega (arith, one_more, has.few); room = has.room };
+        bytes = λ tty low. omega (arith, one_more, sound.terminals.bytes tty low);
       };
       budget = omega (arith, one_more, left);
-      most = sound.most;
       in_user = λ still. (
         slot,
         its,
@@ -186,44 +184,44 @@ module _ (s : PlantState) (sound : IsSound s) (in_user : s.in_user ≡ true) (sl
   turn_made regs pc pages going step = ap (user_turn s.shape.quantum (unix_at s) s.user_pid s.slice) live ∙ rw (going, step) refl
 
   -- an instruction is made
-  stepped_is : (memory : MemoryParts) (satp : ℕ) (regs : List ℕ) (pc : ℕ) (pages : Pages) → s.steps < s.shape.budget
+  stepped_is : (memory : MemoryParts) (satp : ℕ) (regs : List ℕ) (pc : ℕ) (pages : Pages) → s.steps < s.shape.budget → s.shape.budget ≤ 2000000
       → nat_lt s.slice s.shape.quantum ≡ true → step_of in_unix ≡ Next regs pc pages
       → IsSpaceOf words_seen root_seen with_seen (IsKept s its_map) root its_map (record { memory = memory; satp = satp }) pages
       → IsStepped s (after_step s memory satp (record { pc = pc; regs = regs }))
-  stepped_is memory satp regs pc pages left going step is =
+  stepped_is memory satp regs pc pages left most going step is =
       let bank : Bank = record { pc = pc; regs = regs } in
       let same : pages ≡ pages_of (records_held s) (words_of memory) slot its =
       is.holds ∙ pages_same (records_held s) slot its (sound.held.records.mapped.mapped slot its runs.there) (words_of memory) in
       record {
-        sound = sound_now memory satp bank is.fits left is.on;
-        turn = unix_now memory satp bank is.fits left pages same ∙ sym (turn_made regs pc pages going step);
-        steps = one_more memory satp bank is.fits left;
+        sound = sound_now memory satp bank is.fits left most is.on;
+        turn = unix_now memory satp bank is.fits left most pages same ∙ sym (turn_made regs pc pages going step);
+        steps = one_more memory satp bank is.fits left most;
         traps = refl;
         same = record { shape = refl; points = refl; live = refl; history = refl };
       }
 
-  by_step : (new : PlantState) (result : UserEnd) (made : Stepped Seen) (paged : Stepped Pages) → s.steps < s.shape.budget
+  by_step : (new : PlantState) (result : UserEnd) (made : Stepped Seen) (paged : Stepped Pages) → s.steps < s.shape.budget → s.shape.budget ≤ 2000000
       → nat_lt s.slice s.shape.quantum ≡ true → step_of in_unix ≡ paged → ComesTo made paged → StepsAs s new result made → IsTurnOf s in_unix new result
-  by_step new result (Next regs pc seen) paged left going step follows m =
-      rw m.0 (subst (λ (t : PlantState). IsStepped s t) (sym m.1) (stepped_is seen.memory seen.satp regs pc follows.0 left going (step ∙ follows.1) follows.2))
-  by_step new result Call paged left going step follows m = rw m.0 (m.1, going, step ∙ follows)
-  by_step new result (Faulted fault) paged left going step follows m = rw m.0 (m.1, going, step ∙ follows, fault_status in_unix fault (step ∙ follows))
+  by_step new result (Next regs pc seen) paged left most going step follows m =
+      rw m.0 (subst (λ (t : PlantState). IsStepped s t) (sym m.1) (stepped_is seen.memory seen.satp regs pc follows.0 left most going (step ∙ follows.1) follows.2))
+  by_step new result Call paged left most going step follows m = rw m.0 (m.1, going, step ∙ follows)
+  by_step new result (Faulted fault) paged left most going step follows m = rw m.0 (m.1, going, step ∙ follows, fault_status in_unix fault (step ∙ follows))
 
-  by_test : (new : PlantState) (result : UserEnd) (going : Bool) (made : Stepped Seen) (paged : Stepped Pages) → s.steps < s.shape.budget
+  by_test : (new : PlantState) (result : UserEnd) (going : Bool) (made : Stepped Seen) (paged : Stepped Pages) → s.steps < s.shape.budget → s.shape.budget ≤ 2000000
       → nat_lt s.slice s.shape.quantum ≡ going → step_of in_unix ≡ paged → ComesTo made paged
       → MatchBool going (StepsAs s new result made) ((result ≡ end.Slice) × (new ≡ s)) → IsTurnOf s in_unix new result
-  by_test new result true made paged left going step follows m = by_step new result made paged left going step follows m
-  by_test new result false made paged left going step follows m = rw m.0 (m.1, going)
+  by_test new result true made paged left most going step follows m = by_step new result made paged left most going step follows m
+  by_test new result false made paged left most going step follows m = rw m.0 (m.1, going)
 
-  in_slot : (new : PlantState) (result : UserEnd) → s.steps < s.shape.budget → s.bank.pc < 2 ^ 32 → TakesUserTurn s new result → IsUserTurn s new result
-  in_slot new result left small taken =
+  in_slot : (new : PlantState) (result : UserEnd) → s.steps < s.shape.budget → s.shape.budget ≤ 2000000 → s.bank.pc < 2 ^ 32 → TakesUserTurn s new result → IsUserTurn s new result
+  in_slot new result left most small taken =
       let made = user_step seen_space s.bank.regs s.bank.pc (seen_by s) in
-      let turn = by_test new result (nat_lt s.slice s.shape.quantum) made (step_of in_unix) left refl refl (steps_alike small) taken in
+      let turn = by_test new result (nat_lt s.slice s.shape.quantum) made (step_of in_unix) left most refl refl (steps_alike small) taken in
       (in_unix, is_in_user, turn)
 
 -- a turn in user mode on the plant is one of the Unix
-pub takes_turn : (s new : PlantState) (result : UserEnd) → IsSound s → s.in_user ≡ true → s.steps < s.shape.budget → s.bank.pc < 2 ^ 32
+pub takes_turn : (s new : PlantState) (result : UserEnd) → IsSound s → s.in_user ≡ true → s.steps < s.shape.budget → s.shape.budget ≤ 2000000 → s.bank.pc < 2 ^ 32
     → TakesUserTurn s new result → IsUserTurn s new result
-takes_turn s new result sound in_user left small taken =
+takes_turn s new result sound in_user left most small taken =
     let found = sound.in_user in_user in
-    in_slot s sound in_user found.0 found.1 found.2 new result left small taken
+    in_slot s sound in_user found.0 found.1 found.2 new result left most small taken

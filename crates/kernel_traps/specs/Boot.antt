@@ -24,7 +24,6 @@ pub record IsBootable (load : Load) : Type 0 where
   pub programs : All IsLoadable load.programs
   pub frames : start_pages load.programs load.starts ≤ load.shape.user_frames
   pub most_frames : load.shape.user_frames ≤ 384
-  pub most_steps : load.shape.budget ≤ 2000000
 
 -- the program that starts in a slot
 unfoldable pub program_in : Load → (slot : ℕ) → Option Program

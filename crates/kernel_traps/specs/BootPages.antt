@@ -71,7 +71,8 @@ with_start h slot frame (Some program) =
     with_program_words (with_slot_tables h slot frame (page_count program.code) (page_count program.values)) frame program
 with_start h slot frame None = h
 
--- the pages of the starts before one
+-- The pages of the starts before one, none before the first. A start has its pages in the user frames from this number
+-- on, so all pages lie in the least frames, in rising order, start after start.
 abbrev pub pages_before : Load → (slot : ℕ) → ℕ
 pages_before load slot = start_pages load.programs (take slot load.starts)
 

@@ -94,11 +94,11 @@ description_for None = record { object = 0; index = 0; mode = 0; offset = 0 }
 unfoldable pub booted_description : Load → (index : ℕ) → DescRec
 booted_description load index = description_for (slice_get load.starts index)
 
-abbrev pub no_file : FileRec
-no_file = record { state = 0; name_len = 0; name = replicate 24 0; size = 0; kept = 0; sectors = replicate 64 0 }
+abbrev pub unused_file : FileRec
+unused_file = record { state = 0; name_len = 0; name = replicate 24 0; size = 0; kept = 0; sectors = replicate 64 0 }
 
-abbrev pub empty_cache : CacheRec
-empty_cache = record { state = 0; file = 0; page = 0 }
+abbrev pub empty_entry : CacheRec
+empty_entry = record { state = 0; file = 0; page = 0 }
 
 -- nothing is written on a terminal
 abbrev pub silent_record : (tty : ℕ) → TermRec
@@ -129,10 +129,10 @@ module _ {Rest : Type 0} (h : Held Rest) where
   with_exits load count = record h { records = record h.records { exits = set_from 1 count (booted_exit load) h.records.exits } }
 
   abbrev pub with_no_files : (count : ℕ) → Held Rest
-  with_no_files count = record h { records = record h.records { files = set_from 0 count (λ i. no_file) h.records.files } }
+  with_no_files count = record h { records = record h.records { files = set_from 0 count (λ i. unused_file) h.records.files } }
 
   abbrev pub with_empty_caches : (count : ℕ) → Held Rest
-  with_empty_caches count = record h { records = record h.records { caches = set_from 0 count (λ i. empty_cache) h.records.caches } }
+  with_empty_caches count = record h { records = record h.records { caches = set_from 0 count (λ i. empty_entry) h.records.caches } }
 
   abbrev pub with_silent_terminals : (count : ℕ) → Held Rest
   with_silent_terminals count = record h { records = record h.records { terms = set_from 0 count silent_record h.records.terms } }

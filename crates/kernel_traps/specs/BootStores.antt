@@ -1,5 +1,5 @@
 -- A plant that boots, and what its stores make of the words of its area.
-use Rattle.std.specs.Prelude.{◌≡◌, ℕ, ◌+◌, ◌-◌, ◌≤◌, false, if◌then◌else◌, List, All, slice_index}
+use Rattle.std.specs.Prelude.{◌≡◌, ℕ, ◌+◌, ◌-◌, ◌≤◌, if◌then◌else◌, List, All, None, slice_index}
 use Rattle.ow_base.specs.declared.machine.AreaId.TheVariants.{A}
 use Rattle.phys_memory.specs.Memory.{words_of}
 use Rattle.record_layouts.specs.Overlay.{Area, area_at, lies_in}
@@ -15,7 +15,7 @@ pub record IsBooting (s : PlantState) : Type 0 where
   pub armed : IsArmed s
   pub none : HasNoneAtBoot s
   pub first : s.traps ≡ 0
-  pub able : s.refused ≡ false
+  pub able : s.refusal ≡ None
   pub of_area : s.live ≡ A
   pub shut : area_at (words_of s.memory) 1 16 ≡ 0
 

@@ -33,11 +33,6 @@ abbrev pub MayBeLeft : PlantState → (slot : ℕ) → Planned → Held PlantSta
 MayBeLeft s slot (PlanOnce items) new = (new ≡ held_of s) ⊎ (new ≡ patched items (held_of s))
 MayBeLeft s slot (PlanWrite tty from len items) new = MayBeLeftOfWrite (held_of s) tty (bytes_of s slot from len) items new
 
--- the records of a plan
-abbrev pub items_in : Planned → List PatchItem
-items_in (PlanOnce items) = items
-items_in (PlanWrite tty from len items) = items
-
 -- a record of the head, of a process, of its signals or of its exit
 abbrev pub is_of_process : AnyRec → Bool
 is_of_process (any.Head head) = true

@@ -1,20 +1,23 @@
 -- How a trap ends: what its plan must be, what is so once it is carried out, and what a refusal may leave.
-use Rattle.std.specs.Prelude.{◌≡◌, ℕ, ◌<◌, true, Some}
+use Rattle.std.specs.Prelude.{◌≡◌, ℕ, ◌<◌, ◌⊎◌, Some}
 use Rattle.record_layouts.specs.declared.head.HeadRec.{HeadRec}
 use Rattle.record_layouts.specs.Held.{Records, with_items}
-use Rattle.syscalls.specs.Planned.{Planned, PlanOnce, PlanWrite}
+use Rattle.process_table.specs.Meaning.{KeepDescriptors}
+use Rattle.syscalls.specs.Planned.{Planned, PlanOnce, PlanWrite, items_in}
 use Rattle.syscalls.specs.Serving.{CanCall}
 use Rattle.syscalls.specs.Done.{KeepsSound}
+use Rattle.ow_plant.specs.declared.refusal.Refusal.TheVariants as refusal
 use Rattle.ow_plant.specs.State.{PlantState, left_trap}
 use Rattle.intent_store.specs.Live.{held_of}
 use Rattle.kernel_traps.specs.Plants.{AreInWrites}
-use Rattle.kernel_traps.specs.Carrying.{AreOfProcesses, IsCarriedOut, MayBeLeft, items_in}
+use Rattle.kernel_traps.specs.Carrying.{AreOfProcesses, IsCarriedOut, MayBeLeft}
 
--- A plan that ends a trap: it sets records of the head and of processes alone, records stay sound, no process comes into
--- another call than a write, and the head says that this trap is served.
+-- A plan that ends a trap: it sets records of the head and of processes alone, records stay sound, live processes keep
+-- their descriptors, no process comes into another call than a write, and the head says that this trap is served.
 pub record EndsTrap (r : Records) (trap : ℕ) (plan : Planned) : Type 0 where
   pub of_processes : AreOfProcesses (items_in plan)
   pub keeps_sound : KeepsSound r plan
+  pub keeps_descriptors : KeepDescriptors r (items_in plan)
   pub in_writes : AreInWrites (with_items r (items_in plan))
   pub head : HeadRec
   pub is_head : (with_items r (items_in plan)).head ≡ Some head
@@ -34,6 +37,9 @@ HasStep (PlanWrite tty from len items) bytes_of steps = bytes_of < steps
 abbrev pub IsEnded : PlantState → (slot : ℕ) → Planned → PlantState → Type 0
 IsEnded s slot plan new = (done : PlantState) × IsCarriedOut s slot plan (held_of done) × (new ≡ left_trap done)
 
--- what a refusal may leave of a trap; where its end is refused all was done
+-- What a refusal may leave of a trap: where a store was refused a part of the plan, and where the end of the trap was
+-- refused all of it.
 abbrev pub MayBeLeftOfTrap : PlantState → (slot : ℕ) → Planned → PlantState → Type 0
-MayBeLeftOfTrap s slot plan new = (new.refused ≡ true) × MayBeLeft s slot plan (held_of new)
+MayBeLeftOfTrap s slot plan new =
+    ((new.refusal ≡ Some refusal.Store) × MayBeLeft s slot plan (held_of new))
+    ⊎ ((new.refusal ≡ Some refusal.Leave) × IsCarriedOut s slot plan (held_of new))

@@ -1,5 +1,5 @@
 -- Which state of the Unix a plant stands for, and what holds of it between turns and inside a trap.
-use Rattle.std.specs.Prelude.{◌≡◌, ℕ, ◌+◌, ◌-◌, ◌*◌, ◌^◌, ◌<◌, ◌≤◌, true, false, ◌==◌, if◌then◌else◌, List, [], length, drop, IfSome}
+use Rattle.std.specs.Prelude.{◌≡◌, ℕ, ◌+◌, ◌-◌, ◌*◌, ◌^◌, ◌<◌, ◌≤◌, true, false, ◌==◌, if◌then◌else◌, List, [], length, drop, None, IfSome}
 use Rattle.ow_base.specs.Screen.{screen_of}
 use Rattle.phys_memory.specs.Memory.{words_of}
 use Rattle.sv32_tables.specs.Spaces.{satp_of}
@@ -9,10 +9,9 @@ use Rattle.record_layouts.specs.declared.intent.Gate.TheVariants.{Closed}
 use Rattle.record_layouts.specs.Held.{Records}
 use Rattle.record_layouts.specs.Pages.{table_frame}
 use Rattle.record_layouts.specs.Decode.{Context, InKernel, InUser, unix_of}
-use Rattle.record_layouts.specs.Sound.{AreSound, IsIn}
+use Rattle.record_layouts.specs.Sound.{AreOnTerminals, AreSound, IsIn}
 use Rattle.record_layouts.specs.Unix.{Unix}
 use Rattle.tty_screen.specs.Shown.{ShowsScreen}
-use Rattle.syscalls.specs.Serving.{AreOnTerminals}
 use Rattle.ow_plant.specs.State.{PlantState, IsArmed, now_of, tty_of, Terminal as Device}
 use Rattle.intent_store.specs.Live.{records_held, gate_held}
 
@@ -36,15 +35,10 @@ pub record IsOfDevice (r : Records) (tty : ℕ) (device : Device) (terminal : Te
   pub rows : ShowsScreen r tty (screen_of (drop terminal.base device.tape))
   pub display : device.display ≡ screen_of (drop terminal.base device.tape)
 
--- a device has at most 16 bytes for each of so many steps, and room for 16 bytes in each step of the budget
-pub record HasBytes (device : Device) (steps budget : ℕ) : Type 0 where
-  pub few : length device.tape ≤ 16 * steps
-  pub room : device.room ≡ 16 * budget
-
--- both terminals, after so many steps in which bytes went out
+-- both terminals, after so many steps in which bytes went out: at most 16 in each
 pub record AreTerminalsSound (s : PlantState) (steps : ℕ) : Type 0 where
   pub records : (tty : ℕ) → tty < 2 → IfSome ((records_held s).terms tty) (IsOfDevice (records_held s) tty (tty_of s tty))
-  pub bytes : (tty : ℕ) → tty < 2 → HasBytes (tty_of s tty) steps s.shape.budget
+  pub bytes : (tty : ℕ) → tty < 2 → length (tty_of s tty).tape ≤ 16 * steps
 
 -- the calls that take pieces and are built are writes: a process in a call is in one
 pub record AreInWrites (r : Records) : Type 0 where
@@ -53,7 +47,7 @@ pub record AreInWrites (r : Records) : Type 0 where
 -- what holds of memory and of the records in it while no refusal stands, between turns and inside a trap
 pub record IsHeldSound (s : PlantState) : Type 0 where
   pub armed : IsArmed s
-  pub able : s.refused ≡ false
+  pub able : s.refusal ≡ None
   pub shut : gate_held s ≡ Closed
   pub records : AreSound (records_held s)
   pub on_terminals : AreOnTerminals (records_held s)
@@ -66,14 +60,13 @@ pub record IsRunning (s : PlantState) (slot : ℕ) (process : ProcRec) : Type 0 
   pub outside : process.state ≡ 1
   pub root : s.satp ≡ satp_of ((records_held s).map.area_base + table_frame slot 0)
 
--- between turns
+-- between turns; what holds of every plant, as how long its budget may be, is not said again
 pub record IsSound (s : PlantState) : Type 0 where
   pub held : IsHeldSound s
   pub no_trap_runs : s.in_trap ≡ false
   pub served : IfSome (records_held s).head (λ head. head.served < (now_of s).trap)
   pub terminals : AreTerminalsSound s s.steps
   pub budget : s.steps ≤ s.shape.budget
-  pub most : s.shape.budget ≤ 2000000
   pub in_user : s.in_user ≡ true → (slot : ℕ) × (process : ProcRec) × IsRunning s slot process
 
 -- Inside a trap, until the commit that ends it. Terminals have the bytes of so many steps: of a trap that is a step its
@@ -87,4 +80,3 @@ pub record IsInTrap (s : PlantState) (steps : ℕ) : Type 0 where
   pub counted : steps ≤ s.steps
   pub terminals : AreTerminalsSound s steps
   pub budget : s.steps ≤ s.shape.budget
-  pub most : s.shape.budget ≤ 2000000

@@ -47,6 +47,16 @@ pub record IsTrapMade (old new : PlantState) (after : Unix) (made : ℕ) : Type 
 abbrev pub IsPanicNext : PlantState → Type 0
 IsPanicNext s = list_any (is_in (risen s.traps)) s.points ≡ true
 
+-- no panic is to come in it
+abbrev pub IsNoPanicNext : PlantState → Type 0
+IsNoPanicNext s = list_any (is_in (risen s.traps)) s.points ≡ false
+
+-- a trap that was made had none
+abbrev pub HasPassed : PlantState → Turn → Type 0
+HasPassed old turns.Trap = IsNoPanicNext old
+HasPassed old turns.Step = Unit {0}
+HasPassed old turns.AllEnded = Unit {0}
+
 -- the process with a pid is live, and this one
 abbrev pub IsLiveAs : PlantState → (pid : ℕ) → Process → Type 0
 IsLiveAs s pid p = (unix_at s).processes pid ≡ Some p
@@ -96,13 +106,13 @@ IsSignalTrap old new slot = (process : ProcRec) × IsIn (records_held old) slot 
 abbrev pub MayBeLeftOfUser : PlantState → Came → (plan : HeadRec → (slot : ℕ) → ProcRec → Planned) → PlantState → Type 0
 MayBeLeftOfUser old came plan new =
     (head : HeadRec) × (slot : ℕ) × (process : ProcRec) × ((records_held old).head ≡ Some head) × IsRunning old slot process
-    × MayBeLeftOfTrap (entered old came) slot (plan head slot process) new
+    × MayBeLeftOfTrap (entered old came old.user_pid) slot (plan head slot process) new
 
 -- of one that the process of a slot had, which is in the kernel
 abbrev pub MayBeLeftOfKernel : PlantState → (slot : ℕ) → (plan : HeadRec → ProcRec → Planned) → PlantState → Type 0
 MayBeLeftOfKernel old slot plan new =
     (head : HeadRec) × (process : ProcRec) × ((records_held old).head ≡ Some head) × IsIn (records_held old) slot process
-    × MayBeLeftOfTrap (entered old came.Kernel) slot (plan head process) new
+    × MayBeLeftOfTrap (entered old came.Kernel process.pid) slot (plan head process) new
 
 -- of one in which a signal is taken
 abbrev pub MayBeLeftOfSignal : PlantState → (slot : ℕ) → PlantState → Type 0
@@ -113,7 +123,7 @@ MayBeLeftOfSignal old slot new =
 -- of one that no process had: it came so
 abbrev pub MayBeLeftOfIdle : PlantState → Came → PlantState → Type 0
 MayBeLeftOfIdle old came new =
-    (head : HeadRec) × ((records_held old).head ≡ Some head) × MayBeLeftOfTrap (entered old came) 0 (PlanOnce (served_items head (risen old.traps))) new
+    (head : HeadRec) × ((records_held old).head ≡ Some head) × MayBeLeftOfTrap (entered old came 0) 0 (PlanOnce (served_items head (risen old.traps))) new
 
 -- what a refusal may leave at the end of a slice, at a fault of this cause and at a call
 abbrev pub MayBeLeftOfSlice : (old new : PlantState) → Type 0

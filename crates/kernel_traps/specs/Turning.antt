@@ -1,6 +1,6 @@
 -- What a turn makes of a plant.
-use Rattle.std.specs.Prelude.{◌≡◌, ◌+◌, ◌-◌, true, false}
-use Rattle.record_layouts.specs.Choice.{is_any_live}
+use Rattle.std.specs.Prelude.{◌≡◌, ◌+◌, true, false}
+use Rattle.record_layouts.specs.Choice.{has_live_process}
 use Rattle.record_layouts.specs.Turn.{turn}
 use Rattle.ow_plant.specs.State.{PlantState}
 use Rattle.kernel_traps.specs.Plants.{IsSound, unix_at}
@@ -16,7 +16,7 @@ pub record IsSameMachine (old new : PlantState) : Type 0 where
 
 -- a process is live
 abbrev pub IsSomeLive : PlantState → Type 0
-IsSomeLive s = is_any_live (unix_at s).processes 1 ((unix_at s).next_pid - 1) ≡ true
+IsSomeLive s = has_live_process (unix_at s) ≡ true
 
 -- a turn is made: the plant is sound again and stands for the state after the turn
 pub record IsTurned (old new : PlantState) : Type 0 where
@@ -27,7 +27,7 @@ pub record IsTurned (old new : PlantState) : Type 0 where
 
 -- no process is live
 abbrev pub AllHaveEnded : PlantState → Type 0
-AllHaveEnded s = is_any_live (unix_at s).processes 1 ((unix_at s).next_pid - 1) ≡ false
+AllHaveEnded s = has_live_process (unix_at s) ≡ false
 
 -- what a turn answers: an instruction is no trap, and where no process is live nothing is done
 abbrev pub IsTurn : PlantState → PlantState → Turn → Type 0

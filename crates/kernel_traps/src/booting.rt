@@ -1,13 +1,16 @@
 //! How a machine that is ready becomes a kernel that runs.
-ghost use Rattle.std.specs.Prelude.{◌≡◌, length};
+ghost use Rattle.std.specs.Prelude.{◌≡◌, ℕ, ◌<◌, Some, length};
+ghost use Rattle.ow_base.specs.declared.worlds.Program.{Program};
+ghost use Rattle.phys_memory.specs.Memory.{words_of};
 ghost use Rattle.record_layouts.specs.Unix.{start_of};
 ghost use Rattle.ow_plant.specs.State.{IsReady};
-ghost use Rattle.intent_store.specs.Live.{held_of};
+ghost use Rattle.intent_store.specs.Live.{records_held};
 ghost use Rattle.kernel_traps.specs.Plants.{IsSound, unix_at};
-ghost use Rattle.kernel_traps.specs.Boot.{IsBootable};
-ghost use Rattle.kernel_traps.specs.BootPages.{with_starts};
-ghost use Rattle.kernel_traps.specs.BootRecords.{with_booted};
-ghost use Rattle.kernel_traps.specs.BootStores.{HasNoneAtBoot, IsBooting};
+ghost use Rattle.kernel_traps.specs.Boot.{IsBootable, program_in};
+ghost use Rattle.kernel_traps.specs.BootPages.{pages_before};
+ghost use Rattle.kernel_traps.specs.BootState.{IsBooted};
+ghost use Rattle.kernel_traps.specs.BootStores.{HasNoneAtBoot};
+ghost use Rattle.kernel_traps.specs.BootTables.{HasWords};
 ghost use Rattle.kernel_traps.specs.Turning.{IsSameMachine};
 
 mod laws;
@@ -21,18 +24,6 @@ use ow_plant::Plant;
 use pages::start_programs;
 use records::set_records;
 
-// Sets all records, and gives each program its pages.
-fn build(plant: &mut Plant, load: &Load)
-    requires ready { IsReady load.now.shape plant.old }
-    requires load { IsBootable load.now }
-    requires none { HasNoneAtBoot plant.old }
-    ensures held { held_of plant.new ≡ with_starts (with_booted (held_of plant.old) load.now) load.now (length load.now.starts) }
-    ensures booting { IsBooting plant.new }
-{
-    set_records(plant, load);
-    start_programs(plant, load);
-}
-
 /// Makes a kernel of a machine that is ready: the programs of the load are its processes, each in its slot, and nothing
 /// has been done yet. No store of boot is refused.
 pub fn boot(plant: &mut Plant, load: &Load)
@@ -40,10 +31,14 @@ pub fn boot(plant: &mut Plant, load: &Load)
     requires load { IsBootable load.now }
     requires none { HasNoneAtBoot plant.old }
     ensures started { unix_at plant.new ≡ start_of load.now }
+    ensures booted { IsBooted (records_held plant.new) load.now }
+    ensures words { (slot : ℕ) (program : Program) → slot < length load.now.starts → program_in load.now slot ≡ Some program
+        → HasWords (words_of plant.new.memory) (pages_before load.now slot) program }
     ensures sound { IsSound plant.new }
     ensures same { IsSameMachine plant.old plant.new }
     ensures no_steps { plant.new.steps ≡ 0 }
     ensures no_traps { plant.new.traps ≡ 0 }
 {
-    build(plant, load);
+    set_records(plant, load);
+    start_programs(plant, load);
 }

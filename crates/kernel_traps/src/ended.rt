@@ -10,8 +10,8 @@ use intent_store::live_records;
 use ow_plant::Plant;
 use process_table::{Choice, choose};
 
-// What the kernel would do next.
-fn next_choice(plant: &Plant) -> Choice
+/// What the kernel would do next.
+pub(crate) fn next_choice(plant: &Plant) -> Choice
     ensures { IsChoice (records_held plant.now) (now_of plant.now) result }
 {
     choose(&live_records(plant), &plant.now())

@@ -25,6 +25,7 @@ pub(crate) fn end_trap(plant: &mut Plant, slot: u32, service: &Service) -> Resul
     ensures passed { OnOk result (may_refuse plant.old ≡ false) }
     ensures allowed { OnErr result (may_refuse plant.old ≡ true) }
 {
+    plant.fits_shape();
     let mut live = Live::new(plant);
     carry_out(&mut live, slot, service)?;
     plant.leave()

@@ -1,16 +1,17 @@
 //! What a call asks for, carried out by the kernel that runs.
-ghost use Rattle.std.specs.Prelude.{◌≡◌, ◌⊎◌, ◌+◌, ◌<◌, ◌≤◌, [], ◌∷◌, false, true, length, OnOk, OnErr};
+ghost use Rattle.std.specs.Prelude.{◌≡◌, ◌⊎◌, ◌+◌, ◌<◌, ◌≤◌, [], ◌∷◌, true, Some, None, length, OnOk, OnErr};
 ghost use Rattle.ow_base.specs.Pages.{is_readable};
 ghost use Rattle.phys_memory.specs.Memory.{words_of};
 ghost use Rattle.record_layouts.specs.declared.intent.Gate.TheVariants.{Closed};
 ghost use Rattle.record_layouts.specs.Held.{IsCommittable};
+ghost use Rattle.ow_plant.specs.declared.refusal.Refusal.TheVariants as refusal;
 ghost use Rattle.ow_plant.specs.State.{tty_of};
 ghost use Rattle.intent_store.specs.Live.{IsStanding, gate_held, held_of, may_refuse, records_held};
-ghost use Rattle.syscalls.specs.Planned.{pages_in};
+ghost use Rattle.syscalls.specs.Planned.{items_in, pages_in};
 ghost use Rattle.syscalls.specs.Serving.{CanCall, IsDoable, IsWritable, plan_of};
 ghost use Rattle.tty_screen.specs.Shown.{TerminalDecodes};
 ghost use Rattle.kernel_traps.specs.Putting.{IsPut, IsPutPartly};
-ghost use Rattle.kernel_traps.specs.Carrying.{HasRoom, HasRoomFor, IsCarriedOut, IsWritten, MayBeLeft, MayBeLeftOfWrite, bytes_of, items_in};
+ghost use Rattle.kernel_traps.specs.Carrying.{HasRoom, HasRoomFor, IsCarriedOut, IsWritten, MayBeLeft, MayBeLeftOfWrite, bytes_of};
 ghost use Rattle.kernel_traps.specs.Ending.{CanBeServed};
 
 use address_space::user_bytes;
@@ -26,7 +27,7 @@ const PIECE: usize = 16;
 // Writes a byte on a terminal: its record counts the byte before it goes out.
 #[tactic(auto, using(crate::proofs::Refusals::refusals_same, crate::proofs::Refusals::put_refused))]
 fn put_byte(live: &mut Live<'_>, tty: u32, byte: u8) -> Result<(), Panicked>
-    requires able { live.old.plant.now.refused ≡ false }
+    requires able { live.old.plant.now.refusal ≡ None }
     requires stands { IsStanding live.old.plant.now }
     requires tty { tty < 2 }
     requires decodes { TerminalDecodes (records_held live.old.plant.now) tty }
@@ -34,8 +35,8 @@ fn put_byte(live: &mut Live<'_>, tty: u32, byte: u8) -> Result<(), Panicked>
     ensures ok { OnOk result (IsPut (held_of live.old.plant.now) tty (byte ∷ []) (byte ∷ []) (held_of live.new.plant.now)) }
     ensures err { OnErr result ((held_of live.new.plant.now ≡ held_of live.old.plant.now)
         ⊎ IsPut (held_of live.old.plant.now) tty (byte ∷ []) [] (held_of live.new.plant.now)) }
-    ensures stays { OnOk result (live.new.plant.now.refused ≡ false) }
-    ensures cause { OnErr result (live.new.plant.now.refused ≡ true) }
+    ensures stays { OnOk result (live.new.plant.now.refusal ≡ None) }
+    ensures cause { OnErr result (live.new.plant.now.refusal ≡ Some refusal.Store) }
     ensures allowed { OnErr result (may_refuse live.old.plant.now ≡ true) }
     ensures still_stands { IsStanding live.new.plant.now }
     ensures same_reference { live.new.plant.ghost_name ≡ live.old.plant.ghost_name }
@@ -48,15 +49,15 @@ fn put_byte(live: &mut Live<'_>, tty: u32, byte: u8) -> Result<(), Panicked>
 // Writes bytes on a terminal, one after the other.
 #[tactic(auto, using(crate::proofs::Refusals::refusals_put))]
 fn put_bytes(live: &mut Live<'_>, tty: u32, bytes: &[u8]) -> Result<(), Panicked>
-    requires able { live.old.plant.now.refused ≡ false }
+    requires able { live.old.plant.now.refusal ≡ None }
     requires stands { IsStanding live.old.plant.now }
     requires tty { tty < 2 }
     requires decodes { TerminalDecodes (records_held live.old.plant.now) tty }
     requires room { length (tty_of live.old.plant.now tty).tape + length bytes.now ≤ (tty_of live.old.plant.now tty).room }
     ensures ok { OnOk result (IsPut (held_of live.old.plant.now) tty bytes.now bytes.now (held_of live.new.plant.now)) }
     ensures err { OnErr result (IsPutPartly (held_of live.old.plant.now) tty bytes.now (held_of live.new.plant.now)) }
-    ensures stays { OnOk result (live.new.plant.now.refused ≡ false) }
-    ensures cause { OnErr result (live.new.plant.now.refused ≡ true) }
+    ensures stays { OnOk result (live.new.plant.now.refusal ≡ None) }
+    ensures cause { OnErr result (live.new.plant.now.refusal ≡ Some refusal.Store) }
     ensures allowed { OnErr result (may_refuse live.old.plant.now ≡ true) }
     ensures still_stands { IsStanding live.new.plant.now }
     ensures same_reference { live.new.plant.ghost_name ≡ live.old.plant.ghost_name }
@@ -77,7 +78,7 @@ fn write_piece(
     len: u32,
     patch: &Patch,
 ) -> Result<(), Panicked>
-    requires able { live.old.plant.now.refused ≡ false }
+    requires able { live.old.plant.now.refusal ≡ None }
     requires stands { IsStanding live.old.plant.now }
     requires can { CanCall (records_held live.old.plant.now) slot }
     requires writable { IsWritable (records_held live.old.plant.now) (words_of live.old.plant.now.memory) slot tty from len }
@@ -86,8 +87,8 @@ fn write_piece(
     ensures ok { OnOk result (IsWritten (held_of live.old.plant.now) tty (bytes_of live.old.plant.now slot from len) patch.now.items.items (held_of live.new.plant.now)) }
     ensures shut { OnOk result (gate_held live.new.plant.now ≡ Closed) }
     ensures err { OnErr result (MayBeLeftOfWrite (held_of live.old.plant.now) tty (bytes_of live.old.plant.now slot from len) patch.now.items.items (held_of live.new.plant.now)) }
-    ensures stays { OnOk result (live.new.plant.now.refused ≡ false) }
-    ensures cause { OnErr result (live.new.plant.now.refused ≡ true) }
+    ensures stays { OnOk result (live.new.plant.now.refusal ≡ None) }
+    ensures cause { OnErr result (live.new.plant.now.refusal ≡ Some refusal.Store) }
     ensures allowed { OnErr result (may_refuse live.old.plant.now ≡ true) }
     ensures still_stands { IsStanding live.new.plant.now }
     ensures same_reference { live.new.plant.ghost_name ≡ live.old.plant.ghost_name }
@@ -106,7 +107,7 @@ fn write_piece(
 /// `Panicked` comes only where a store was refused. Then a front of the bytes is out, of the next one the terminal's
 /// record may know, and the patch is set only where all of them are out.
 pub(crate) fn carry_out(live: &mut Live<'_>, slot: u32, service: &Service) -> Result<(), Panicked>
-    requires able { live.old.plant.now.refused ≡ false }
+    requires able { live.old.plant.now.refusal ≡ None }
     requires stands { IsStanding live.old.plant.now }
     requires can { CanBeServed (records_held live.old.plant.now) slot (plan_of service.now) }
     requires doable { IsDoable (records_held live.old.plant.now) (words_of live.old.plant.now.memory) slot service.now }
@@ -115,8 +116,8 @@ pub(crate) fn carry_out(live: &mut Live<'_>, slot: u32, service: &Service) -> Re
     ensures ok { OnOk result (IsCarriedOut live.old.plant.now slot (plan_of service.now) (held_of live.new.plant.now)) }
     ensures shut { OnOk result (gate_held live.new.plant.now ≡ Closed) }
     ensures err { OnErr result (MayBeLeft live.old.plant.now slot (plan_of service.now) (held_of live.new.plant.now)) }
-    ensures stays { OnOk result (live.new.plant.now.refused ≡ false) }
-    ensures cause { OnErr result (live.new.plant.now.refused ≡ true) }
+    ensures stays { OnOk result (live.new.plant.now.refusal ≡ None) }
+    ensures cause { OnErr result (live.new.plant.now.refusal ≡ Some refusal.Store) }
     ensures allowed { OnErr result (may_refuse live.old.plant.now ≡ true) }
     ensures still_stands { IsStanding live.new.plant.now }
     ensures same_reference { live.new.plant.ghost_name ≡ live.old.plant.ghost_name }

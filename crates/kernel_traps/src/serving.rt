@@ -1,23 +1,20 @@
 //! The turns of a kernel that runs, and its end.
 ghost use Rattle.std.specs.Prelude.{◌≡◌, ◌-◌, ◌^◌, ◌<◌, ◌⊎◌, true, false, IfOk, OnOk, OnErr};
 ghost use Rattle.record_layouts.specs.Turn.{closed};
-ghost use Rattle.process_table.specs.Choosing.{IsChoice};
-ghost use Rattle.ow_plant.specs.State.{now_of};
-ghost use Rattle.intent_store.specs.Live.{records_held};
 ghost use Rattle.kernel_traps.specs.Plants.{IsSound, unix_at};
-ghost use Rattle.kernel_traps.specs.Traps.{IsAllEnded, IsPanicNext, IsTrapMade, IsTurnInUser, MayBeLeftOfClosing, MayBeLeftOfKernelTurn, MayBeLeftOfTurn, MayBeLeftOfUserTurn};
+ghost use Rattle.kernel_traps.specs.Traps.{HasPassed, IsAllEnded, IsNoPanicNext, IsPanicNext, IsTrapMade, IsTurnInUser, MayBeLeftOfClosing, MayBeLeftOfKernelTurn, MayBeLeftOfTurn, MayBeLeftOfUserTurn};
 ghost use Rattle.kernel_traps.specs.Turning.{AllHaveEnded, IsTurn};
 
+use crate::ended::next_choice;
 use crate::traps::{
     call_trap, closing_trap, closing_user_trap, fault_trap, idle_trap, piece_trap, signal_trap,
     slice_trap,
 };
 use crate::turns::Turn;
 use crate::user::{return_to, user_step};
-use intent_store::Live;
 use ow_base::Panicked;
 use ow_plant::{Plant, UserEnd};
-use process_table::{Choice, choose};
+use process_table::Choice;
 
 // A turn of the process in user mode.
 fn user_turn(plant: &mut Plant) -> Result<Turn, Panicked>
@@ -27,6 +24,7 @@ fn user_turn(plant: &mut Plant) -> Result<Turn, Panicked>
     requires traps { plant.old.traps < 2 ^ 32 - 2 }
     ensures ok { IfOk result (IsTurnInUser plant.old plant.new) }
     ensures err { OnErr result (MayBeLeftOfUserTurn plant.old plant.new) }
+    ensures passed { IfOk result (HasPassed plant.old) }
     ensures allowed { OnErr result (IsPanicNext plant.old) }
 {
     match user_step(plant) {
@@ -38,16 +36,6 @@ fn user_turn(plant: &mut Plant) -> Result<Turn, Panicked>
     Ok(Turn::Trap)
 }
 
-// What the kernel does next.
-fn chosen(live: &mut Live<'_>) -> Choice
-    ensures choice { IsChoice (records_held live.old.plant.now) (now_of live.old.plant.now) result }
-    ensures same { live.new.plant.now ≡ live.old.plant.now }
-    ensures same_reference { live.new.plant.ghost_name ≡ live.old.plant.ghost_name }
-{
-    let now = live.now();
-    choose(&*live, &now)
-}
-
 // A turn where no process is in user mode.
 fn kernel_turn(plant: &mut Plant) -> Result<Turn, Panicked>
     requires sound { IsSound plant.old }
@@ -57,10 +45,10 @@ fn kernel_turn(plant: &mut Plant) -> Result<Turn, Panicked>
     ensures ok { IfOk result (IsTurn plant.old plant.new) }
     ensures ended { AllHaveEnded plant.old → IsAllEnded result }
     ensures err { OnErr result (MayBeLeftOfKernelTurn plant.old plant.new) }
+    ensures passed { IfOk result (HasPassed plant.old) }
     ensures allowed { OnErr result (IsPanicNext plant.old) }
 {
-    let mut live = Live::new(plant);
-    match chosen(&mut live) {
+    match next_choice(plant) {
         Choice::User(slot) => {
             return_to(plant, slot);
             return user_turn(plant);
@@ -76,7 +64,8 @@ fn kernel_turn(plant: &mut Plant) -> Result<Turn, Panicked>
 /// One turn of the machine: an instruction of the process in user mode, or a trap. Where no process is live nothing is
 /// done.
 ///
-/// `Panicked` comes only where a store of the trap, or its end, was refused.
+/// `Panicked` comes only where a store of the trap, or its end, was refused, and a trap that was made had no panic listed
+/// for it.
 pub fn serve_trap(plant: &mut Plant) -> Result<Turn, Panicked>
     requires sound { IsSound plant.old }
     requires traps { plant.old.traps < 2 ^ 32 - 2 }
@@ -84,6 +73,7 @@ pub fn serve_trap(plant: &mut Plant) -> Result<Turn, Panicked>
     ensures ok { IfOk result (IsTurn plant.old plant.new) }
     ensures ended { AllHaveEnded plant.old → IsAllEnded result }
     ensures err { OnErr result (MayBeLeftOfTurn plant.old plant.new) }
+    ensures passed { IfOk result (HasPassed plant.old) }
     ensures allowed { OnErr result (IsPanicNext plant.old) }
 {
     if plant.in_user() {
@@ -100,6 +90,7 @@ pub fn shutdown(plant: &mut Plant) -> Result<(), Panicked>
     requires traps { plant.old.traps < 2 ^ 32 - 2 }
     ensures ok { OnOk result (IsTrapMade plant.old plant.new (closed (unix_at plant.old)) 0) }
     ensures err { OnErr result (MayBeLeftOfClosing plant.old plant.new) }
+    ensures passed { OnOk result (IsNoPanicNext plant.old) }
     ensures allowed { OnErr result (IsPanicNext plant.old) }
 {
     if plant.in_user() {

@@ -4,7 +4,7 @@ ghost use Rattle.record_layouts.specs.declared.proc.ProcRec.{ProcRec};
 ghost use Rattle.kernel_traps.specs.Plants.{IsSound};
 ghost use Rattle.kernel_traps.specs.User.{IsOutside, IsReturned, IsUserTurn};
 
-use intent_store::Live;
+use intent_store::live_records;
 use ow_plant::{Bank, Plant, UserEnd};
 use record_layouts::RecordView;
 
@@ -19,9 +19,9 @@ pub(crate) fn return_to(plant: &mut Plant, slot: u32)
     ensures returned { IsReturned plant.old slot plant.new }
     ensures sound { IsSound plant.new }
 {
-    let live = Live::new(plant);
-    let process = live.proc(slot).unwrap();
-    let root = live.area_base() + FIRST_ROOT + 3 * slot;
+    let view = live_records(plant);
+    let process = view.proc(slot).unwrap();
+    let root = view.area_base() + FIRST_ROOT + 3 * slot;
     let bank = Bank {
         pc: process.pc,
         regs: process.regs,
@@ -37,5 +37,6 @@ pub(crate) fn user_step(plant: &mut Plant) -> UserEnd
     requires budget { plant.old.steps < plant.old.shape.budget }
     ensures { IsUserTurn plant.old plant.new result }
 {
+    plant.fits_shape();
     plant.user_step()
 }

@@ -6,19 +6,18 @@ use Rattle.ow_base.specs.Sv32.{WordMap}
 use Rattle.ow_base.specs.declared.machine.Now.{Now}
 use Rattle.record_layouts.specs.declared.head.HeadRec.{HeadRec}
 use Rattle.record_layouts.specs.declared.proc.ProcRec.{ProcRec}
-use Rattle.record_layouts.specs.Unix.{Process}
-use Rattle.record_layouts.specs.Choice.{least_from, or_else, deliverable, can_run, is_runnable, chosen, live_or, is_any_live}
+use Rattle.record_layouts.specs.Unix.{most_pids, Process}
+use Rattle.record_layouts.specs.Choice.{least_from, or_else, deliverable, can_run, is_runnable, chosen, live_or, has_live_process, is_any_live}
 use Rattle.record_layouts.specs.Held.{Records}
 use Rattle.record_layouts.specs.Pages.{is_live}
-use Rattle.record_layouts.specs.Decode.{InKernel, call_of, process_of, process_at, processes_of, last_by, next_by, unix_of}
-use Rattle.record_layouts.specs.Sound.{IsIn, AreSound, is_used}
+use Rattle.record_layouts.specs.Decode.{InKernel, call_of, process_of, process_at, processes_of, last_by, unix_of}
+use Rattle.record_layouts.specs.Sound.{IsIn, AreSound}
 use Rattle.process_table.specs.Choosing.{keys_of, signal_by, is_runnable_in, is_ready, is_ready_one, pid_by, call_goes_on, IsNext, IsNone, IsChosen, last_pid}
 use Rattle.process_table.specs.Slots.{has_such, is_live_one}
 use Rattle.process_table.specs.Least.{IsLeast, NonePasses}
 use Rattle.process_table.proofs.Least.{least_found, least_none}
 use Rattle.process_table.proofs.Least.{Passing}
 use Rattle.process_table.proofs.Holding.{such_found, such_passing}
-use Rattle.process_table.proofs.Endings.{used_by}
 use Rattle.process_table.proofs.Seats.{Missing, Living, living, found_in, pid_range}
 use Rattle.process_table.proofs.Running.{signal_is, call_is, same_tests}
 
@@ -107,14 +106,6 @@ none_passes r words tapes steps traps now above end sound none = record {
   ];
 }
 
--- a live pid is below the next one
-pid_below : (r : Records) (slot : ℕ) (process : ProcRec) → AreSound r → IsIn r slot process → process.pid < next_by r.head
-pid_below r slot process sound is =
-    let range = pid_range r slot process sound.values is in
-    let used : is_used (r.exits process.pid) ≡ true = used_by (r.exits process.pid) slot (sound.numbered.exit slot process is) in
-    let below : nat_lt process.pid (next_by r.head) ≡ true = sym (sound.numbered.used process.pid range.0 range.1) ∙ used in
-    grind (arith, nat_tests, below)
-
 least_is : (r : Records) (words : WordMap) (tapes : ℕ → List ℕ) (steps traps : ℕ) (now : Now) (above slot end : ℕ) (process : ProcRec) → AreSound r → IsNext r now above slot
     → r.procs slot ≡ Some process → process.pid < end → IsLeast (test_of r words tapes steps traps now) (above + 1) end process.pid
 least_is r words tapes steps traps now above slot end process sound next there before =
@@ -145,16 +136,16 @@ last_same None = refl
 
 -- the least above a pid, and none above it
 found_above : (r : Records) (words : WordMap) (tapes : ℕ → List ℕ) (steps traps : ℕ) (now : Now) (above slot : ℕ) (process : ProcRec) → AreSound r → IsNext r now above slot
-    → r.procs slot ≡ Some process → least_from (test_of r words tapes steps traps now) (above + 1) (next_by r.head - (above + 1)) ≡ Some process.pid
+    → r.procs slot ≡ Some process → least_from (test_of r words tapes steps traps now) (above + 1) (most_pids - above) ≡ Some process.pid
 found_above r words tapes steps traps now above slot process sound next there =
     let found = ready_parts r now above slot next.within next.ready in
     let both : Some found.0 ≡ Some process = sym found.1.is.there ∙ there in
     let same : found.0 ≡ process = cc in
     let is : IsIn r slot process = subst (λ (p : ProcRec). IsIn r slot p) same found.1.is in
     let over : above < process.pid = subst (λ (p : ProcRec). above < p.pid) same found.1.over in
-    let below : process.pid < next_by r.head = pid_below r slot process sound is in
-    least_found (test_of r words tapes steps traps now) (above + 1) (next_by r.head - (above + 1)) (next_by r.head) process.pid (omega (arith, over, below))
-    (least_is r words tapes steps traps now above slot (next_by r.head) process sound next there below)
+    let most : process.pid ≤ 256 = (pid_range r slot process sound.values is).1 in
+    least_found (test_of r words tapes steps traps now) (above + 1) (most_pids - above) 257 process.pid (omega (arith, over, most))
+    (least_is r words tapes steps traps now above slot 257 process sound next there (omega (arith, most)))
 
 none_above : (r : Records) (words : WordMap) (tapes : ℕ → List ℕ) (steps traps : ℕ) (now : Now) (above count : ℕ) → AreSound r → IsNone r now above
     → least_from (test_of r words tapes steps traps now) (above + 1) count ≡ None
@@ -176,7 +167,7 @@ none_higher r now above none = record {
 -- the choice of the Unix, by the last pid
 either_of : Records → WordMap → (ℕ → List ℕ) → (steps traps : ℕ) → Now → (last : ℕ) → Option ℕ
 either_of r words tapes steps traps now last =
-    or_else (least_from (test_of r words tapes steps traps now) (last + 1) (next_by r.head - (last + 1))) (least_from (test_of r words tapes steps traps now) 1 (next_by r.head - 1))
+    or_else (least_from (test_of r words tapes steps traps now) (last + 1) (most_pids - last)) (least_from (test_of r words tapes steps traps now) 1 most_pids)
 
 is_either : (r : Records) (words : WordMap) (tapes : ℕ → List ℕ) (steps traps : ℕ) (now : Now)
     → chosen (keys_of now) (unix_of r words tapes InKernel steps traps) ≡ either_of r words tapes steps traps now (last_pid r.head)
@@ -187,11 +178,11 @@ pub chosen_is : (r : Records) (words : WordMap) (tapes : ℕ → List ℕ) (step
     → r.procs slot ≡ Some process → chosen (keys_of now) (unix_of r words tapes InKernel steps traps) ≡ Some process.pid
 unfolding either_of
 chosen_is r words tapes steps traps now slot process sound is there =
-    let low = least_from (test_of r words tapes steps traps now) 1 (next_by r.head - 1) in
+    let low = least_from (test_of r words tapes steps traps now) 1 most_pids in
     is_either r words tapes steps traps now ∙ (elim is [
       | inl next ↦ ap (λ (o : Option ℕ). or_else o low) (found_above r words tapes steps traps now (last_pid r.head) slot process sound next there)
       | inr first ↦
-          ap (λ (o : Option ℕ). or_else o low) (none_above r words tapes steps traps now (last_pid r.head) (next_by r.head - (last_pid r.head + 1)) sound first.0)
+          ap (λ (o : Option ℕ). or_else o low) (none_above r words tapes steps traps now (last_pid r.head) (most_pids - last_pid r.head) sound first.0)
           ∙ found_above r words tapes steps traps now 0 slot process sound first.1 there
     ])
 
@@ -199,10 +190,10 @@ pub none_chosen : (r : Records) (words : WordMap) (tapes : ℕ → List ℕ) (st
     → chosen (keys_of now) (unix_of r words tapes InKernel steps traps) ≡ None
 unfolding either_of
 none_chosen r words tapes steps traps now sound none =
-    let low = least_from (test_of r words tapes steps traps now) 1 (next_by r.head - 1) in
+    let low = least_from (test_of r words tapes steps traps now) 1 most_pids in
     is_either r words tapes steps traps now
-    ∙ (ap (λ (o : Option ℕ). or_else o low) (none_above r words tapes steps traps now (last_pid r.head) (next_by r.head - (last_pid r.head + 1)) sound (none_higher r now (last_pid r.head) none))
-    ∙ none_above r words tapes steps traps now 0 (next_by r.head - 1) sound none)
+    ∙ (ap (λ (o : Option ℕ). or_else o low) (none_above r words tapes steps traps now (last_pid r.head) (most_pids - last_pid r.head) sound (none_higher r now (last_pid r.head) none))
+    ∙ none_above r words tapes steps traps now 0 most_pids sound none)
 
 live_or_true : (p : Option Process) (others : Bool) → is_some p ≡ true → live_or p others ≡ true
 live_or_true (Some p) others here = refl
@@ -249,18 +240,17 @@ living_slot r words pid (inl missing) live = absurd (cc (sym (ap is_some missing
 living_slot r words pid (inr found) live = such_found r is_live_one found.slot found.is.within (ap is_live_one found.is.there ∙ found.is.live)
 
 pub any_live_is : (r : Records) (words : WordMap) (tapes : ℕ → List ℕ) (steps traps : ℕ) → AreSound r
-    → is_any_live (unix_of r words tapes InKernel steps traps).processes 1 ((unix_of r words tapes InKernel steps traps).next_pid - 1) ≡ has_such r is_live_one
+    → has_live_process (unix_of r words tapes InKernel steps traps) ≡ has_such r is_live_one
 unfolding unix_of processes_of
 any_live_is r words tapes steps traps sound =
     let ps = process_at r words in
-    same_tests (is_any_live ps 1 (next_by r.head - 1)) (has_such r is_live_one)
+    same_tests (is_any_live ps 1 most_pids) (has_such r is_live_one)
     (λ any.
-    let found = live_found ps 1 (next_by r.head - 1) any in
+    let found = live_found ps 1 most_pids any in
     living_slot r words found.0 (living r words found.0 sound) found.1)
     (λ such.
     let passing : Passing (λ k. is_live_one (r.procs k)) 0 16 = such_passing r is_live_one such in
     let held = live_slot r passing.number (r.procs passing.number) passing.to refl passing.passes in
     let range = pid_range r passing.number held.0 sound.values held.1 in
-    let below : held.0.pid < next_by r.head = pid_below r passing.number held.0 sound held.1 in
-    live_at ps 1 (next_by r.head - 1) held.0.pid (next_by r.head) (omega (arith, range.0, below)) range.0 below
+    live_at ps 1 most_pids held.0.pid 257 refl range.0 (omega (arith, range.1))
     (ap is_some (found_in r words passing.number held.0 sound held.1)))

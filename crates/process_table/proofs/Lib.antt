@@ -16,3 +16,4 @@ pub mod Saving
 pub mod Running
 pub mod Chosen
 pub mod Signalling
+pub mod Descriptors

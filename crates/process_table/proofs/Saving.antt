@@ -92,7 +92,7 @@ set_itself_at ps pid p q there = elim (same_or_not q pid) [
   | inr apart ↦ set_other ps pid (Some p) q apart
 ]
 
-set_itself : (ps : ℕ → Option Process) (pid : ℕ) (p : Process) → ps pid ≡ Some p → updated ps pid (Some p) ≡ ps
+pub set_itself : (ps : ℕ → Option Process) (pid : ℕ) (p : Process) → ps pid ≡ Some p → updated ps pid (Some p) ≡ ps
 set_itself ps pid p there = λ i q. set_itself_at ps pid p q there i
 
 pub saved_unix : (r : Records) (head : HeadRec) (slot : ℕ) (process : ProcRec) (bank : Bank) (trap : ℕ) (words : WordMap) (tapes : ℕ → List ℕ) (count steps traps : ℕ)

@@ -5,5 +5,3 @@ pub mod Slots
 pub mod Choosing
 pub mod Patches
 pub mod Meaning
-pub mod Small
-pub mod SmallValues

@@ -1,23 +1,24 @@
 //! What the choice and the patches are in the Unix that the records stand for. The functions do nothing: their
 //! contracts are the laws.
 
-ghost use Rattle.std.specs.Prelude.{◌≡◌, ℕ, ◌+◌, ◌-◌, List, Bool, Some, None};
+ghost use Rattle.std.specs.Prelude.{◌≡◌, ℕ, ◌+◌, List, Bool, Some, None};
 ghost use Rattle.ow_base.specs.Sv32.{WordMap};
 ghost use Rattle.ow_base.specs.declared.machine.Bank.{Bank};
 ghost use Rattle.ow_base.specs.declared.machine.Now.{Now};
 ghost use Rattle.record_layouts.specs.declared.head.HeadRec.{HeadRec};
+ghost use Rattle.record_layouts.specs.declared.patch.PatchItem.{PatchItem};
 ghost use Rattle.record_layouts.specs.declared.proc.ProcRec.{ProcRec};
 ghost use Rattle.record_layouts.specs.declared.sig.SigRec.{SigRec};
 ghost use Rattle.record_layouts.specs.Calls.{ended_as, trapped};
-ghost use Rattle.record_layouts.specs.Choice.{chosen, deliverable, is_any_live};
+ghost use Rattle.record_layouts.specs.Choice.{chosen, deliverable, has_live_process};
 ghost use Rattle.record_layouts.specs.Decode.{Context, InKernel, InUser, call_of, process_of, unix_of};
 ghost use Rattle.record_layouts.specs.Held.{Records, with_items};
 ghost use Rattle.record_layouts.specs.Signals.{signalled};
-ghost use Rattle.record_layouts.specs.Sound.{AreSound, IsIn};
+ghost use Rattle.record_layouts.specs.Sound.{AreOnTerminals, AreSound, IsIn};
 ghost use Rattle.record_layouts.specs.Spelling.{IsStatus};
 ghost use Rattle.record_layouts.specs.Unix.{Process};
 ghost use Rattle.process_table.specs.Choosing.{IsRest, IsWork, keys_of, next_signal, signal_by};
-ghost use Rattle.process_table.specs.Meaning.{IsOf};
+ghost use Rattle.process_table.specs.Meaning.{IsOf, KeepDescriptors};
 ghost use Rattle.process_table.specs.Patches.{ended_items, saved_items, signal_items};
 ghost use Rattle.process_table.specs.declared.choice.Choice.{Choice};
 
@@ -63,8 +64,7 @@ pub const fn choices_agree()
         → AreSound r → IsRest r now is_any → chosen (keys_of now) (unix_of r words tapes InKernel steps traps) ≡ None }
     ensures live { (r : Records) (words : WordMap) (tapes : ℕ → List ℕ) (steps traps : ℕ) (now : Now) (is_any : Bool)
         → AreSound r → IsRest r now is_any
-        → is_any_live (unix_of r words tapes InKernel steps traps).processes 1
-        ((unix_of r words tapes InKernel steps traps).next_pid - 1) ≡ is_any }
+        → has_live_process (unix_of r words tapes InKernel steps traps) ≡ is_any }
 {}
 
 /// Sound records stay sound once a patch of this crate is set.
@@ -79,4 +79,18 @@ pub const fn sound_records_stay_sound()
         → AreSound r → r.head ≡ Some head → IsIn r slot process → r.sigs slot ≡ Some signals
         → next_signal process signals ≡ Some signal
         → AreSound (with_items r (signal_items head slot process signals signal trap)) }
+{}
+
+/// Processes that are live once a patch of this crate is set were live before, with the same descriptors, and these name
+/// what they named.
+pub const fn patches_keep_descriptors()
+    ensures ended { (r : Records) (head : HeadRec) (slot : ℕ) (process : ProcRec) (status trap : ℕ)
+        → AreSound r → IsIn r slot process → KeepDescriptors r (ended_items head slot process status trap) }
+    ensures saved { (r : Records) (head : HeadRec) (slot : ℕ) (process : ProcRec) (bank : Bank) (trap : ℕ)
+        → IsIn r slot process → KeepDescriptors r (saved_items head slot process bank trap) }
+    ensures signalled { (r : Records) (head : HeadRec) (slot : ℕ) (process : ProcRec) (signals : SigRec) (signal trap : ℕ)
+        → AreSound r → r.head ≡ Some head → IsIn r slot process → r.sigs slot ≡ Some signals
+        → KeepDescriptors r (signal_items head slot process signals signal trap) }
+    ensures terminals { (r : Records) (items : List PatchItem) → KeepDescriptors r items → AreOnTerminals r
+        → AreOnTerminals (with_items r items) }
 {}

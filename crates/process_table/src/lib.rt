@@ -12,7 +12,8 @@ mod tests;
 
 pub use choice::{Choice, choose};
 pub use laws::{
-    an_end_is_an_end, choices_agree, saves_only_count, signals_agree, sound_records_stay_sound,
+    an_end_is_an_end, choices_agree, patches_keep_descriptors, saves_only_count, signals_agree,
+    sound_records_stay_sound,
 };
 pub use ow_base::{Bank, Now};
 pub use patches::{end_process, save_bank, take_signal};

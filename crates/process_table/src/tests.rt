@@ -1,7 +1,6 @@
-//! What is chosen and what is set, on a small view.
-mod small_view;
+//! What is chosen and what is set, by the records of an area.
 
-ghost use Rattle.std.specs.Prelude.{◌≡◌, ◌<◌, true, IsTrue};
+ghost use Rattle.std.specs.Prelude.{◌<◌, ◌≡◌, true, IsTrue};
 ghost use Rattle.process_table.specs.Slots.{is_live_one};
 
 use crate::signals::signal_of;
@@ -9,146 +8,223 @@ use crate::slots::is_live;
 use crate::{
     Bank, Choice, Now, Patch, choose, end_process, free_slot, next_pid, save_bank, take_signal,
 };
-use ow_base::Regs;
-use record_layouts::{AnyRec, RecordView};
-use small_view::{CONSUMED, ENDED, FREE, OUT, READS, Small, WAITS, WRITES};
+use ow_base::{Regs, put_seal};
+use record_layouts::{AnyRec, AreaView, MemoryMap, RecordView, WordSource};
+use std::alloc::{AllocError, Global};
+use std::test::Fail;
 
-// No typed byte has arrived, and one is to come.
-const NOW: Now = Now {
-    trap: 9,
+const MAP: MemoryMap = MemoryMap {
+    area_base: 0,
+    cache_base: 64,
+    pool_base: 128,
     user_frames: 0,
     sectors: 0,
-    arrived: [0, 0],
-    typed: [1, 0],
 };
 
-// The slots with these kinds, and free ones behind them.
-fn kinds_of(front: &[u32]) -> [u32; 16] {
-    let mut kinds = [FREE; 16];
-    for (slot, kind) in kinds.iter_mut().zip(front) {
-        *slot = *kind;
-    }
-    kinds
+// A process by its state, pid, parent and call, and the signals that are pending.
+type Held = [u32; 5];
+
+const FREE: Held = [0; 5];
+
+// Memory with the 64 frames of an area and no other.
+#[derive(Drop)]
+struct Memory {
+    words: Vec<u32>,
 }
 
-fn view_of(front: &[u32], last: u32, shift: u32) -> Small {
-    Small {
-        last,
-        shift,
-        handler: 0,
-        is_full: false,
-        parent_lives: true,
-        kinds: kinds_of(front),
-    }
-}
-
-// The slot of a pid, as the view numbers them: 13 times 5 is one more than 4 times 16.
-fn slot_of(pid: u32, shift: u32) -> u32
-    ensures { result < 16 }
-{
-    (pid % 16 + 31 - shift % 16) * 13 % 16
-}
-
-// What is to be done next where no signal is pending and processes are outside a call or in a write.
-fn expected(kinds: &[u32; 16], last: u32, shift: u32) -> Choice {
-    for step in 0..16 {
-        let pid = (last % 17 + step) % 16 + 1;
-        let slot = slot_of(pid, shift);
-        match kinds[slot as usize] {
-            OUT => return Choice::User(slot),
-            WRITES => return Choice::Piece(slot),
-            _ => {}
-        }
-    }
-    Choice::AllEnded
-}
-
-// The four kinds of a pattern.
-fn pattern(number: u32) -> [u32; 4] {
-    [number % 4, number / 4 % 4, number / 16 % 4, number / 64 % 4]
-}
-
-#[test]
-fn chooses_by_pids(rt: HostRuntime) {
-    for number in 0..256 {
-        for last in [0, 1, 5, 6, 7, 11, 16] {
-            let view = view_of(&pattern(number), last, 5);
-            assert!(rt; choose(&view, &NOW) == expected(&view.kinds, last, 5));
-        }
-    }
-}
-
-// Sixteen kinds, two bits for each.
-fn all_kinds(bits: u32) -> [u32; 16] {
-    let mut kinds = [FREE; 16];
-    for (slot, kind) in kinds.iter_mut().enumerate() {
-        *kind = bits >> (2 * slot) & 3;
-    }
-    kinds
-}
-
-#[test]
-fn chooses_among_sixteen(rt: HostRuntime) {
-    for bits in [
-        0x9c27_f1b3,
-        0xffff_ff7f,
-        0x0300_0c00,
-        0xc0ff_33fb,
-        0xffff_ffff,
-        0x5555_5555,
-    ] {
-        for last in 0..18 {
-            let kinds = all_kinds(bits);
-            let view = Small {
-                kinds,
-                ..view_of(&[], last, 3)
-            };
-            assert!(rt; choose(&view, &NOW) == expected(&kinds, last, 3));
-        }
-    }
-}
-
-#[test]
-fn chooses_what_can_go_on(rt: HostRuntime) {
-    // Slot 0 has pid 1, slot 1 pid 6 and slot 2 pid 11; numbers above 5 are signals 9 and 1.
-    for (front, arrived, want) in [
-        ([READS, FREE, FREE], [CONSUMED, 0], Choice::Idle),
-        ([READS, FREE, FREE], [CONSUMED + 1, 0], Choice::Piece(0)),
-        ([READS, FREE, FREE], [CONSUMED + 2, 0], Choice::Piece(0)),
-        ([WAITS, FREE, FREE], [0, 0], Choice::Piece(0)),
-        ([WAITS, WAITS, FREE], [0, 0], Choice::Piece(1)),
-        ([WAITS, READS, FREE], [0, 0], Choice::Idle),
-        ([WAITS, READS, ENDED], [0, 0], Choice::Piece(0)),
-        ([READS, 0x100, OUT], [0, 0], Choice::Signal(1)),
-        ([0x100, OUT, FREE], [0, 0], Choice::Signal(0)),
-        ([FREE, ENDED, FREE], [0, 0], Choice::AllEnded),
-    ] {
-        let now = Now {
-            arrived,
-            typed: [CONSUMED + 2, 0],
-            ..NOW
+impl Memory {
+    // A kernel with these processes in its first slots and none in the others. All have one handler for each signal,
+    // and a descriptor of terminal 0, of whose typed bytes three are consumed.
+    fn new(
+        alloc: Global,
+        last: u32,
+        next: u32,
+        handler: u32,
+        front: &[Held],
+    ) -> Result<Memory, AllocError> {
+        let mut memory = Memory {
+            words: vec![in alloc; 0u32; 65536]?,
         };
-        assert!(rt; choose(&view_of(&front, 0, 0), &now) == want);
+        memory.put(0, 16, &[0x4845_4144, 1, 5, last, next]);
+        memory.put(3584, 16, &[0x4f50_454e, 2, 0, 1]);
+        memory.put(7680, 16, &[0x5445_524d, 0, 3, 0, 3]);
+        for slot in 0..16 {
+            let [state, pid, parent, call, pending] = front.get(slot).copied().unwrap_or(FREE);
+            let pages = if state == 1 || state == 2 { 1 } else { 0 };
+            memory.put(
+                1024 + 128 * slot,
+                128,
+                &[
+                    0x5052_4f43,
+                    state,
+                    pid,
+                    parent,
+                    call,
+                    0,
+                    pages,
+                    0,
+                    0,
+                    0,
+                    0,
+                    0,
+                    0,
+                    pages,
+                ],
+            );
+            memory.put(
+                3072 + 32 * slot,
+                32,
+                &[
+                    0x5349_4753,
+                    pid,
+                    pending,
+                    handler,
+                    handler,
+                    handler,
+                    handler,
+                    handler,
+                    handler,
+                    handler,
+                    handler,
+                    handler,
+                ],
+            );
+            if state != 0 {
+                memory.put(
+                    11260 + 4 * (pid % 64) as usize,
+                    4,
+                    &[0x4558_4954, if pages == 1 { 1 } else { 2 }],
+                );
+            }
+        }
+        Ok(memory)
+    }
+
+    // A record of so many words that begins so is sealed and put in its place.
+    fn put(&mut self, number: usize, count: usize, front: &[u32]) {
+        let mut words = [0; 128];
+        for (to, from) in words.iter_mut().zip(front) {
+            *to = *from;
+        }
+        let count = count.clamp(2, 128);
+        put_seal(&mut words[..count]);
+        for (place, word) in words.iter().take(count).enumerate() {
+            if let Some(changed) = self.words.get_mut(number.wrapping_add(place)) {
+                *changed = *word;
+            }
+        }
     }
 }
 
-#[test]
-fn takes_slots_and_pids(rt: HostRuntime) {
-    // All but pid 1, in slot 0, are its children.
-    for (front, parent_lives, want) in [
-        (ENDED, true, Some(0)),
-        (OUT, true, None),
-        (OUT, false, Some(1)),
-        (FREE, true, Some(0)),
-    ] {
-        let mut view = view_of(&[ENDED; 16], 0, 0);
-        view.kinds[0] = front;
-        view.parent_lives = parent_lives;
-        assert!(rt; free_slot(&view) == want);
-        assert!(rt; next_pid(&view) == Some(17));
-        view.is_full = true;
-        assert!(rt; next_pid(&view).is_none());
+impl WordSource for Memory {
+    ghost use Rattle.std.specs.Prelude.{◌+◌, ◌*◌, nat_lt, if◌then◌else◌, slice_index, Some, None};
+
+    ghost words = { λ m frame place.
+        if nat_lt frame 64 then Some (slice_index m.words.items (1024 * frame + place)) else None };
+
+    fn load(&self, frame: u32, word: u32) -> Option<u32> {
+        if frame >= 64 {
+            return None;
+        }
+        Some(
+            self.words
+                .get((1024 * frame + word) as usize)
+                .copied()
+                .unwrap_or(0),
+        )
     }
+}
+
+// Processes, the last pid, how many typed bytes have arrived of five, and what is chosen.
+const CHOICES: [(&[Held], u32, u32, Choice); 15] = [
+    // By pid, from the one behind the last on, and not by slot.
+    (
+        &[[1, 5, 0, 0, 0], [1, 2, 0, 0, 0], [1, 9, 0, 0, 0]],
+        0,
+        0,
+        Choice::User(1),
+    ),
+    (
+        &[[1, 5, 0, 0, 0], [1, 2, 0, 0, 0], [1, 9, 0, 0, 0]],
+        2,
+        0,
+        Choice::User(0),
+    ),
+    (
+        &[[1, 5, 0, 0, 0], [1, 2, 0, 0, 0], [1, 9, 0, 0, 0]],
+        5,
+        0,
+        Choice::User(2),
+    ),
+    (
+        &[[1, 5, 0, 0, 0], [1, 2, 0, 0, 0], [1, 9, 0, 0, 0]],
+        9,
+        0,
+        Choice::User(1),
+    ),
+    (&[[1, 5, 0, 0, 0], [2, 2, 0, 2, 0]], 5, 0, Choice::Piece(1)),
+    // Reads and waits.
+    (&[[2, 1, 0, 3, 0]], 0, 3, Choice::Idle),
+    (&[[2, 1, 0, 3, 0]], 0, 4, Choice::Piece(0)),
+    (&[[2, 1, 0, 3, 0]], 0, 5, Choice::Piece(0)),
+    (&[[2, 1, 0, 10, 0]], 0, 0, Choice::Piece(0)),
+    (&[[2, 1, 0, 10, 0], [2, 2, 1, 3, 0]], 0, 3, Choice::Idle),
+    (
+        &[[2, 1, 0, 10, 0], [2, 2, 1, 3, 0], [3, 3, 1, 0, 0]],
+        0,
+        3,
+        Choice::Piece(0),
+    ),
+    // Signals, a call that there is none of, and none that is live.
+    (
+        &[[2, 1, 0, 3, 0x200], [1, 2, 0, 0, 0]],
+        2,
+        3,
+        Choice::Signal(0),
+    ),
+    (&[[1, 1, 0, 0, 2], [1, 2, 0, 0, 0]], 2, 3, Choice::Signal(0)),
+    (&[[2, 1, 0, 4, 0]], 0, 0, Choice::Idle),
+    (&[FREE, [3, 1, 0, 0, 0]], 0, 0, Choice::AllEnded),
+];
+
+#[test]
+fn chooses(rt: HostRuntime) -> Result<(), Fail> {
+    for (front, last, arrived, want) in CHOICES {
+        let now = Now {
+            trap: 9,
+            user_frames: 0,
+            sectors: 0,
+            arrived: [arrived, 0],
+            typed: [5, 0],
+        };
+        let memory = Memory::new(rt.alloc(), last, 10, 0, front)?;
+        assert_eq!(rt;
+            choose(&AreaView::new(&memory, MAP), &now),
+            want,
+            "{front:?} {last}"
+        );
+    }
+    Ok(())
+}
+
+#[test]
+fn takes_slots_and_pids(rt: HostRuntime) -> Result<(), Fail> {
+    // A process that has ended keeps its slot while its parent is live.
+    for (front, next, slot, pid) in [
+        ([[1, 1, 0, 0, 0], FREE], 256, Some(1), Some(256)),
+        ([[3, 1, 0, 0, 0], FREE], 257, Some(0), None),
+        ([[3, 2, 1, 0, 0], [1, 1, 0, 0, 0]], 3, Some(2), Some(3)),
+        ([[3, 2, 1, 0, 0], [3, 1, 0, 0, 0]], 3, Some(0), Some(3)),
+    ] {
+        let memory = Memory::new(rt.alloc(), 0, next, 0, &front)?;
+        let view = AreaView::new(&memory, MAP);
+        assert_eq!(rt;
+            (free_slot(&view), next_pid(&view)),
+            (slot, pid),
+            "{front:?}"
+        );
+    }
+    Ok(())
 }
 
 // What a patch sets: trap and pid of the head, state, status and pc of the process, and how it ended or which signals
@@ -175,63 +251,52 @@ fn told(patch: &Patch) -> [u32; 6] {
 }
 
 // The slot holds a live process.
-fn holds_live(view: &Small, slot: u32) -> bool
+fn holds_live<V: RecordView>(view: &V, slot: u32) -> bool
     requires { slot < 16 }
-    ensures { IsTrue result → is_live_one ((⟦<Small as RecordView>⟧.records view.now).procs slot) ≡ true }
+    ensures { IsTrue result → is_live_one ((V.records view.now).procs slot) ≡ true }
 {
     view.proc(slot).is_some_and(|process| is_live(&process))
 }
 
-#[test]
-fn patches_tell_what_ends(rt: HostRuntime) {
+// What the process in slot 0 leaves: where it ends, where its bank is saved, and where a signal goes to it.
+fn left_by<V: RecordView>(view: &V) -> [[u32; 6]; 3] {
+    let mut left = [[0; 6]; 3];
+    if view.head().is_none() || !holds_live(view, 0) {
+        return left;
+    }
     let bank = Bank {
         pc: 0x1_0404,
         regs: Regs::new(),
     };
-    // By slot: how the process ends, and how it is saved. Slots 2 and 3 hold no live process.
-    for (slot, ended, saved) in [
-        (0, [9, 1, 3, 0x20d, 0, 0x20d], [9, 1, 1, 0, 0x1_0404, 0]),
-        (1, [9, 6, 3, 0x20d, 0, 0x20d], [9, 6, 2, 0, 0x1_0404, 0]),
-        (2, [0; 6], [0; 6]),
-        (3, [0; 6], [0; 6]),
-    ] {
-        let view = view_of(&[OUT, WRITES, ENDED, FREE], 0, 0);
-        let mut found = [[0; 6]; 2];
-        if holds_live(&view, slot) {
-            found = [
-                told(&end_process(&view, slot, 0x20d, 9)),
-                told(&save_bank(&view, slot, &bank, 9)),
-            ];
+    left[0] = told(&end_process(view, 0, 0x20d, 9));
+    left[1] = told(&save_bank(view, 0, &bank, 9));
+    if let Some(process) = view.proc(0) {
+        if is_live(&process) && signal_of(view, 0, &process).is_some() {
+            left[2] = told(&take_signal(view, 0, 9));
         }
-        assert!(rt; found == [ended, saved]);
     }
-}
-
-// What the signal of the process in slot 0 does, if one goes to it.
-fn signalled(view: &Small) -> [u32; 6] {
-    match view.proc(0) {
-        Some(process) if is_live(&process) && signal_of(view, 0, &process).is_some() => told(
-            &take_signal(view, 0, 9),
-        ),
-        _ => [0; 6],
-    }
+    left
 }
 
 #[test]
-fn signals_go_by_their_handlers(rt: HostRuntime) {
-    // Signals 9 and 4, signals 4 and 3, and none, in a wait.
-    for (half, handler, want) in [
-        (0x108, 0, [9, 1, 3, 0x109, 0, 0x109]),
-        (0x108, 1, [9, 1, 2, 0, 0x1_0000, 0x10]),
-        (0x108, 0x808, [9, 1, 1, 0, 0x808, 0x10]),
-        (0xc, 0, [9, 1, 3, 0x103, 0, 0x103]),
-        (0xc, 1, [9, 1, 2, 0, 0x1_0000, 0x10]),
-        (WAITS, 0, [0; 6]),
+fn patches_tell_what_is_left(rt: HostRuntime) -> Result<(), Fail> {
+    // A process outside a call and one in a wait, by handler; and one that has ended.
+    for (held, handler, saved, signalled) in [
+        ([1, 6, 0, 0, 0], 0, 1, [0; 6]),
+        ([2, 6, 0, 10, 0x210], 0, 2, [9, 6, 3, 0x109, 0, 0x109]),
+        ([2, 6, 0, 10, 0x210], 1, 2, [9, 6, 2, 0, 0, 0x10]),
+        ([2, 6, 0, 10, 0x18], 0x808, 2, [9, 6, 1, 0, 0x808, 0x10]),
     ] {
-        let view = Small {
-            handler,
-            ..view_of(&[half], 0, 0)
-        };
-        assert!(rt; signalled(&view) == want);
+        let memory = Memory::new(rt.alloc(), 0, 10, handler, &[held])?;
+        let left = left_by(&AreaView::new(&memory, MAP));
+        let ended = [9, 6, 3, 0x20d, 0, 0x20d];
+        assert_eq!(rt;
+            left,
+            [ended, [9, 6, saved, 0, 0x1_0404, 0], signalled],
+            "{held:?}"
+        );
     }
+    let memory = Memory::new(rt.alloc(), 0, 10, 0, &[[3, 6, 0, 0, 0]])?;
+    assert_eq!(rt; left_by(&AreaView::new(&memory, MAP)), [[0; 6]; 3]);
+    Ok(())
 }

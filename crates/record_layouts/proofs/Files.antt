@@ -1,10 +1,13 @@
--- How the record of a file is written.
-use Rattle.std.proofs.Common.{◌≡◌, ℕ, Bool, false, IsTrue, ◌∙◌, ap, sym, refl, arith, List, [], ◌∷◌, ◌++◌, length, slice_index, slice_set, take, drop, replicate}
+-- How the record of a file is written, and whether it counts on a disk.
+use Rattle.std.proofs.Common.{◌≡◌, ℕ, ◌<◌, Bool, false, IsTrue, ◌∙◌, ap, sym, refl, arith, inl, inr, List, [], ◌∷◌, ◌++◌, length, slice_index, slice_set, take, drop, replicate, All, Option, Some, None}
+use Rattle.std.proofs.lemmas.Bool.{cases_Bool}
 use Rattle.std.proofs.lemmas.Grind.{common_steps}
 use Rattle.ow_base.specs.Seals.{AreWords, seal_of, sealed}
 use Rattle.record_layouts.specs.declared.file.FileRec.{FileRec}
 use Rattle.record_layouts.specs.Packing.{ArePacked}
-use Rattle.record_layouts.specs.File.{IsFile, FitsFile}
+use Rattle.record_layouts.specs.File.{IsFile, FitsFile, file_in, file_on_disk, if_on_disk}
+use Rattle.record_layouts.specs.Spelling.{are_below}
+use Rattle.record_layouts.specs.Tests.{decides_below}
 use Rattle.record_layouts.proofs.Records.{zeros}
 use Rattle.record_layouts.proofs.PackedBytes.{one_reading}
 use Rattle.record_layouts.proofs.Laying.{front, behind, place_behind, set_behind, seal_put, seal_at}
@@ -96,3 +99,15 @@ unread words name sectors fits packed part told unfit file is =
     (sym is.sectors ∙ sym part) in
     let yes : IsTrue fits = told (rw same at is.fits) in
     cc
+
+-- whether a file counts on a disk
+pub on_disk : (sectors : ℕ) (words : List ℕ) (file : FileRec) → file_in words ≡ Some file → All (λ sector. sector < sectors) (take file.kept file.sectors)
+    → file_on_disk sectors words ≡ Some file
+on_disk sectors words file read are = ap (if_on_disk sectors) read ∙ rw ((decides_below sectors (take file.kept file.sectors)).1 are) refl
+
+pub not_on_disk : (sectors : ℕ) (words : List ℕ) (file : FileRec) → file_in words ≡ Some file → (All (λ sector. sector < sectors) (take file.kept file.sectors) → ⊥)
+    → file_on_disk sectors words ≡ None
+not_on_disk sectors words file read not = elim (cases_Bool (are_below sectors (take file.kept file.sectors))) [
+  | inl all ↦ absurd (not ((decides_below sectors (take file.kept file.sectors)).0 all))
+  | inr some ↦ ap (if_on_disk sectors) read ∙ rw some refl
+]

@@ -8,7 +8,7 @@ use Rattle.ow_base.specs.Words.{updated}
 use Rattle.record_layouts.specs.declared.memory_map.MemoryMap.{MemoryMap}
 use Rattle.record_layouts.specs.Spelling.{lies_between}
 use Rattle.record_layouts.specs.Tests.{decides_between}
-use Rattle.record_layouts.specs.Held.{with_items, with_record}
+use Rattle.record_layouts.specs.Held.{SectorsAre, with_items, with_record}
 use Rattle.record_layouts.specs.declared.patch.AnyRec.{AnyRec}
 use Rattle.record_layouts.specs.declared.patch.PatchItem.{PatchItem}
 use Rattle.record_layouts.specs.Patch.{IsOfKind, IsPatch, IsPatchItem}
@@ -23,7 +23,7 @@ use Rattle.record_layouts.specs.Sig.{IsSig, sig_in}
 use Rattle.record_layouts.specs.declared.desc.DescRec.{DescRec}
 use Rattle.record_layouts.specs.Desc.{IsDesc, desc_in}
 use Rattle.record_layouts.specs.declared.file.FileRec.{FileRec}
-use Rattle.record_layouts.specs.File.{IsFile, file_in}
+use Rattle.record_layouts.specs.File.{IsFile, file_on_disk}
 use Rattle.record_layouts.specs.declared.cache.CacheRec.{CacheRec}
 use Rattle.record_layouts.specs.Cache.{IsCache, cache_in}
 use Rattle.record_layouts.specs.declared.term.TermRec.{TermRec}
@@ -37,6 +37,7 @@ use Rattle.record_layouts.specs.declared.places.RecordId.TheVariants as id
 use Rattle.record_layouts.specs.Places.{AreApart, IsRecordId, first_word, length_of}
 use Rattle.record_layouts.specs.Overlay.{Area, WordRange, begin_of, end_of, IsAllowed, laid, lies_in, may_change, words_from}
 use Rattle.record_layouts.specs.Reading.{records_in, words_of}
+use Rattle.record_layouts.proofs.Files.{on_disk}
 use Rattle.record_layouts.proofs.Intents.{lies_beside, words_from-same}
 use Rattle.record_layouts.proofs.Ranges.{words_from-each}
 use Rattle.record_layouts.proofs.Reading.{head_read, proc_read, sig_read, desc_read, file_read, cache_read, term_read, row_read, exit_read}
@@ -151,7 +152,7 @@ module _ (map : MemoryMap) (room : map.user_frames ≤ 384) (area : Area) (range
   same_files : ((i : ℕ) → one ≢ id.File i) → (i : ℕ) → (records_in map true (with_range area range)).files i
       ≡ (records_in map true area).files i
   unfolding records_in
-  same_files differ i = same_at area range one there begin long file_in (λ i. id.File i) (λ i. nat_lt i 32)
+  same_files differ i = same_at area range one there begin long (file_on_disk map.sectors) (λ i. id.File i) (λ i. nat_lt i 32)
       (λ i holds. ltb-true i 32 holds) i (differ i)
 
   same_caches : ((i : ℕ) → one ≢ id.Cache i) → (i : ℕ) → (records_in map true (with_range area range)).caches i
@@ -297,18 +298,20 @@ module _ (map : MemoryMap) (room : map.user_frames ≤ 384) (area : Area) (range
 
   set_file : (index : ℕ) → IsRecordId (id.File index) → begin_of range ≡ first_word (id.File index)
       → length range.words ≡ length_of (id.File index) → (file : FileRec) → IsFile range.words file
+      → SectorsAre map.sectors (any.File file)
       → records_in map true (with_range area range) ≡ with_record (records_in map true area) (id.File index)
       (any.File file)
   unfolding records_in
-  set_file index there begin long file is = λ j. record {
+  set_file index there begin long file is sectors = λ j. record {
     map = map;
     head = same_head map room area range (id.File index) there begin long allowed (λ e. cc) j;
     procs = λ i. same_procs map room area range (id.File index) there begin long allowed (λ i e. cc) i j;
     sigs = λ i. same_sigs map room area range (id.File index) there begin long allowed (λ i e. cc) i j;
     descs = λ i. same_descs map room area range (id.File index) there begin long allowed (λ i e. cc) i j;
-    files = λ i. set_at area range (id.File index) there begin long file_in (λ i. id.File i) (λ i. nat_lt i 32)
+    files = λ i. set_at area range (id.File index) there begin long (file_on_disk map.sectors) (λ i. id.File i) (λ i. nat_lt i 32)
         (λ i holds. ltb-true i 32 holds) index file refl
-        (λ i other e. other (cc)) (lt-ltb index 32 there) (file_read range.words file is) i j;
+        (λ i other e. other (cc)) (lt-ltb index 32 there)
+        (on_disk map.sectors range.words file (file_read range.words file is) sectors) i j;
     caches = λ i. same_caches map room area range (id.File index) there begin long allowed (λ i e. cc) i j;
     terms = λ i. same_terms map room area range (id.File index) there begin long allowed (λ i e. cc) i j;
     rows = λ i. same_rows map room area range (id.File index) there begin long allowed (λ i e. cc) i j;
@@ -411,47 +414,50 @@ module _ (map : MemoryMap) (room : map.user_frames ≤ 384) (area : Area) (range
 set_one : (map : MemoryMap) → map.user_frames ≤ 384 → (area : Area) (range : WordRange) (one : RecordId) (rec : AnyRec)
     → IsRecordId one → IsOfKind one rec
     → begin_of range ≡ first_word one → length range.words ≡ length_of one → IsAllowed range → IsSpelled rec range.words
+    → SectorsAre map.sectors rec
     → records_in map true (with_range area range) ≡ with_record (records_in map true area) one rec
 set_one map room area range id.Head
-    (any.Head head) there kind begin long allowed is = set_head map room area range allowed begin long head is
+    (any.Head head) there kind begin long allowed is sectors = set_head map room area range allowed begin long head is
 set_one map room area range (id.Proc slot)
-    (any.Proc process) there kind begin long allowed is = set_proc map room area range allowed slot there begin long
+    (any.Proc process) there kind begin long allowed is sectors = set_proc map room area range allowed slot there begin long
     process is
 set_one map room area range (id.Sig slot)
-    (any.Sig signals) there kind begin long allowed is = set_sig map room area range allowed slot there begin long
+    (any.Sig signals) there kind begin long allowed is sectors = set_sig map room area range allowed slot there begin long
     signals is
 set_one map room area range (id.Desc index)
-    (any.Desc description) there kind begin long allowed is = set_desc map room area range allowed index there begin
+    (any.Desc description) there kind begin long allowed is sectors = set_desc map room area range allowed index there begin
     long description is
 set_one map room area range (id.File index)
-    (any.File file) there kind begin long allowed is = set_file map room area range allowed index there begin long file
-    is
+    (any.File file) there kind begin long allowed is sectors = set_file map room area range allowed index there begin long
+    file is sectors
 set_one map room area range (id.Cache index)
-    (any.Cache entry) there kind begin long allowed is = set_cache map room area range allowed index there begin long
+    (any.Cache entry) there kind begin long allowed is sectors = set_cache map room area range allowed index there begin long
     entry is
 set_one map room area range (id.Term tty)
-    (any.Term terminal) there kind begin long allowed is = set_term map room area range allowed tty there begin long
+    (any.Term terminal) there kind begin long allowed is sectors = set_term map room area range allowed tty there begin long
     terminal is
 set_one map room area range (id.Row index)
-    (any.Row row) there kind begin long allowed is = set_row map room area range allowed index there begin long row is
+    (any.Row row) there kind begin long allowed is sectors = set_row map room area range allowed index there begin long row is
 set_one map room area range (id.Exit pid)
-    (any.Exit exit) there kind begin long allowed is = set_exit map room area range allowed pid there begin long exit is
-set_one map room area range other rec there kind begin long allowed is = absurd kind
+    (any.Exit exit) there kind begin long allowed is sectors = set_exit map room area range allowed pid there begin long exit is
+set_one map room area range other rec there kind begin long allowed is sectors = absurd kind
 
 set_items : (map : MemoryMap) → map.user_frames ≤ 384 → (area : Area) (ranges : List WordRange)
-    (items : List PatchItem) → All IsPatchItem items
+    (items : List PatchItem) → All IsPatchItem items → All (λ (item : PatchItem). SectorsAre map.sectors item.rec) items
     → AreSpelled ranges items → records_in map true (λ number. laid ranges number (area number)) ≡ with_items
     (records_in map true area) items
 unfolding laid
-set_items map room area [] [] each spelled = refl
-set_items map room area [] (item ∷ items) each spelled = absurd spelled
-set_items map room area (range ∷ ranges) [] each spelled = absurd spelled
-set_items map room area (range ∷ ranges) (item ∷ items) each spelled =
+set_items map room area [] [] each sectors spelled = refl
+set_items map room area [] (item ∷ items) each sectors spelled = absurd spelled
+set_items map room area (range ∷ ranges) [] each sectors spelled = absurd spelled
+set_items map room area (range ∷ ranges) (item ∷ items) each sectors spelled =
     let is = All-head IsPatchItem item items each in
     let s = spelled.0 in
-    set_items map room (with_range area range) ranges items (All-tail IsPatchItem item items each) spelled.1
+    set_items map room (with_range area range) ranges items (All-tail IsPatchItem item items each)
+    (All-tail (λ (item : PatchItem). SectorsAre map.sectors item.rec) item items sectors) spelled.1
     ∙ ap (λ r. with_items r items)
-    (set_one map room area range item.id item.rec is.there is.kind s.begin s.long s.allowed s.spelled)
+    (set_one map room area range item.id item.rec is.there is.kind s.begin s.long s.allowed s.spelled
+    (All-head (λ (item : PatchItem). SectorsAre map.sectors item.rec) item items sectors))
 
 -- an intent may have them all
 pub allowed_ranges : (ranges : List WordRange) (items : List PatchItem) → AreSpelled ranges items → All IsAllowed ranges
@@ -461,9 +467,10 @@ allowed_ranges (range ∷ ranges) [] spelled = absurd spelled
 allowed_ranges (range ∷ ranges) (item ∷ items) spelled = All-cons IsAllowed range ranges spelled.0.allowed
     (allowed_ranges ranges items spelled.1)
 
--- the ranges of a patch, laid over an area, set its records and nothing else
+-- the ranges of a patch, laid over an area, set its records and nothing else; the data sectors of its files are there
 pub patch_sets : (map : MemoryMap) → map.user_frames ≤ 384 → (area : Area) (ranges : List WordRange)
-    (items : List PatchItem) → IsPatch items
+    (items : List PatchItem) → IsPatch items → All (λ (item : PatchItem). SectorsAre map.sectors item.rec) items
     → AreSpelled ranges items → records_in map true (λ number. laid ranges number (area number)) ≡ with_items
     (records_in map true area) items
-patch_sets map room area ranges items patch spelled = set_items map room area ranges items patch.each spelled
+patch_sets map room area ranges items patch sectors spelled = set_items map room area ranges items patch.each sectors
+    spelled

@@ -19,7 +19,7 @@ use Rattle.record_layouts.specs.Head.{head_in}
 use Rattle.record_layouts.specs.Proc.{proc_in}
 use Rattle.record_layouts.specs.Sig.{sig_in}
 use Rattle.record_layouts.specs.Desc.{desc_in}
-use Rattle.record_layouts.specs.File.{file_in}
+use Rattle.record_layouts.specs.File.{file_on_disk}
 use Rattle.record_layouts.specs.Cache.{cache_in}
 use Rattle.record_layouts.specs.Term.{term_in}
 use Rattle.record_layouts.specs.Row.{row_in}
@@ -64,9 +64,9 @@ module _ (some other : Area) (same : (number : ℕ) → may_change number (numbe
       ≡ (if nat_lt i 32 then desc_in (words_of other (id.Desc i)) else None)
   same_descs = same_read desc_in (λ i. id.Desc i) (λ i. nat_lt i 32) (λ i holds. ltb-true i 32 holds)
 
-  same_files : (i : ℕ) → (if nat_lt i 32 then file_in (words_of some (id.File i)) else None)
-      ≡ (if nat_lt i 32 then file_in (words_of other (id.File i)) else None)
-  same_files = same_read file_in (λ i. id.File i) (λ i. nat_lt i 32) (λ i holds. ltb-true i 32 holds)
+  same_files : (sectors i : ℕ) → (if nat_lt i 32 then file_on_disk sectors (words_of some (id.File i)) else None)
+      ≡ (if nat_lt i 32 then file_on_disk sectors (words_of other (id.File i)) else None)
+  same_files sectors = same_read (file_on_disk sectors) (λ i. id.File i) (λ i. nat_lt i 32) (λ i holds. ltb-true i 32 holds)
 
   same_caches : (i : ℕ) → (if nat_lt i 64 then cache_in (words_of some (id.Cache i)) else None)
       ≡ (if nat_lt i 64 then cache_in (words_of other (id.Cache i)) else None)
@@ -104,7 +104,7 @@ block_stays map is_readable some other head rest =
       procs = λ i. same_procs some other same i j;
       sigs = λ i. same_sigs some other same i j;
       descs = λ i. same_descs some other same i j;
-      files = λ i. same_files some other same i j;
+      files = λ i. same_files some other same map.sectors i j;
       caches = λ i. same_caches some other same i j;
       terms = λ i. same_terms some other same i j;
       rows = λ i. same_rows some other same i j;
@@ -195,7 +195,7 @@ module _ (map : MemoryMap) (room : map.user_frames ≤ 384) (is_readable : Bool)
         procs = λ i. same_procs after area (beside_intents area frame hit value (inl is)) i j;
         sigs = λ i. same_sigs after area (beside_intents area frame hit value (inl is)) i j;
         descs = λ i. same_descs after area (beside_intents area frame hit value (inl is)) i j;
-        files = λ i. same_files after area (beside_intents area frame hit value (inl is)) i j;
+        files = λ i. same_files after area (beside_intents area frame hit value (inl is)) map.sectors i j;
         caches = λ i. same_caches after area (beside_intents area frame hit value (inl is)) i j;
         terms = λ i. same_terms after area (beside_intents area frame hit value (inl is)) i j;
         rows = λ i. same_rows after area (beside_intents area frame hit value (inl is)) i j;
@@ -221,7 +221,7 @@ module _ (map : MemoryMap) (room : map.user_frames ≤ 384) (is_readable : Bool)
         procs = λ i. same_procs after area (beside_intents area frame hit value (inr past)) i j;
         sigs = λ i. same_sigs after area (beside_intents area frame hit value (inr past)) i j;
         descs = λ i. same_descs after area (beside_intents area frame hit value (inr past)) i j;
-        files = λ i. same_files after area (beside_intents area frame hit value (inr past)) i j;
+        files = λ i. same_files after area (beside_intents area frame hit value (inr past)) map.sectors i j;
         caches = λ i. same_caches after area (beside_intents area frame hit value (inr past)) i j;
         terms = λ i. same_terms after area (beside_intents area frame hit value (inr past)) i j;
         rows = λ i. same_rows after area (beside_intents area frame hit value (inr past)) i j;
@@ -245,7 +245,7 @@ module _ (map : MemoryMap) (room : map.user_frames ≤ 384) (is_readable : Bool)
         procs = λ i. same_procs after area (beside_intents area frame hit value (inr (omega arith))) i j;
         sigs = λ i. same_sigs after area (beside_intents area frame hit value (inr (omega arith))) i j;
         descs = λ i. same_descs after area (beside_intents area frame hit value (inr (omega arith))) i j;
-        files = λ i. same_files after area (beside_intents area frame hit value (inr (omega arith))) i j;
+        files = λ i. same_files after area (beside_intents area frame hit value (inr (omega arith))) map.sectors i j;
         caches = λ i. same_caches after area (beside_intents area frame hit value (inr (omega arith))) i j;
         terms = λ i. same_terms after area (beside_intents area frame hit value (inr (omega arith))) i j;
         rows = λ i. same_rows after area (beside_intents area frame hit value (inr (omega arith))) i j;

@@ -86,6 +86,7 @@ tty_write u pid p tty done =
     then written_to (written_on u tty (bytes_at p.pages (address + done) piece)) pid p count (done + piece)
     else stopped u pid p done 14
 
+-- one piece of a write by what the description is open on; of a file it is not built, and nothing more becomes of it
 abbrev pub write_on : Unix → (pid : ℕ) → Process → (done : ℕ) → Object → Unix
 write_on u pid p done (OnTty tty) = tty_write u pid p tty done
 write_on u pid p done (OnFile file) = u
@@ -127,13 +128,15 @@ called u pid p number =
 unfoldable pub entered : Unix → (pid : ℕ) → Process → Unix
 entered u pid p = called (trapped u pid) pid p (call_number p)
 
--- a further piece of the call that a process is in
+-- a further piece of a write
 abbrev pub piece_on : Unix → (pid : ℕ) → Process → (done : ℕ) → Option Description → Unix
 piece_on u pid p done (Some d) = write_on u pid p done d.object
 piece_on u pid p done None = u
 
+-- a further piece of the call with this number that a process is in: of a write; others are not built, and nothing
+-- more becomes of them
 unfoldable pub continued : Unix → (pid : ℕ) → Process → (number done : ℕ) → Unix
-continued u pid p number done = piece_on u pid p done (description_of u p (argument p 0))
+continued u pid p number done = if number == 2 then piece_on u pid p done (description_of u p (argument p 0)) else u
 
 -- Piece
 abbrev pub piece_by : Unix → (pid : ℕ) → Process → CallState → Unix

@@ -1,6 +1,6 @@
 -- Which process is next.
 use Rattle.std.specs.Prelude.{ℕ, zero, suc, ◌+◌, ◌-◌, Bool, true, false, nat_lt, not, ◌==◌, ◌||◌, if◌then◌else◌, Option, Some, None, is_some}
-use Rattle.record_layouts.specs.Unix.{Unix, Process, EndedChild, Description, Object, OnFile, OnTty, CallState, Out, In, Position, AtKernel, AtUser, AtPanic}
+use Rattle.record_layouts.specs.Unix.{most_pids, Unix, Process, EndedChild, Description, Object, OnFile, OnTty, CallState, Out, In, Position, AtKernel, AtUser, AtPanic}
 use Rattle.record_layouts.specs.Calls.{argument, description_of}
 
 -- of each terminal, how many of its typed bytes have arrived by the coming trap, and how many there are in all
@@ -42,10 +42,10 @@ is_any test first zero = false
 is_any test first (suc n) = test first || is_any test (first + 1) n
 
 unfoldable pub has_ended_child : Unix → (parent : ℕ) → Bool
-has_ended_child u parent = is_any (λ pid. is_ended_child_of parent (u.ended pid)) 1 256
+has_ended_child u parent = is_any (λ pid. is_ended_child_of parent (u.ended pid)) 1 most_pids
 
 unfoldable pub has_child : Unix → (parent : ℕ) → Bool
-has_child u parent = is_any (λ pid. is_child_of parent (u.processes pid)) 1 256
+has_child u parent = is_any (λ pid. is_child_of parent (u.processes pid)) 1 most_pids
 
 -- a read of a terminal can go on where the next typed byte has arrived, or all have and there is no next one
 abbrev pub read_from : Keys → Unix → Object → Bool
@@ -77,7 +77,7 @@ is_runnable keys u pid None = false
 unfoldable pub chosen : Keys → Unix → Option ℕ
 chosen keys u =
     let test = λ (pid : ℕ). is_runnable keys u pid (u.processes pid) in
-    or_else (least_from test (u.last_pid + 1) (u.next_pid - (u.last_pid + 1))) (least_from test 1 (u.next_pid - 1))
+    or_else (least_from test (u.last_pid + 1) (most_pids - u.last_pid)) (least_from test 1 most_pids)
 
 -- this process is live, or one of the others is
 abbrev pub live_or : Option Process → Bool → Bool
@@ -88,6 +88,10 @@ live_or None others = others
 unfoldable pub is_any_live : (processes : ℕ → Option Process) → (first count : ℕ) → Bool
 is_any_live processes first zero = false
 is_any_live processes first (suc n) = live_or (processes first) (is_any_live processes (first + 1) n)
+
+-- some process is live
+abbrev pub has_live_process : Unix → Bool
+has_live_process u = is_any_live u.processes 1 most_pids
 
 -- control returns to a process outside a call to which no signal goes; another one stays in the kernel
 abbrev pub returned_as : Unix → (pid : ℕ) → (signal : Option ℕ) → CallState → Unix

@@ -10,7 +10,7 @@ use Rattle.record_layouts.specs.declared.sig.SigRec.{SigRec}
 use Rattle.record_layouts.specs.declared.desc.DescRec.{DescRec}
 use Rattle.record_layouts.specs.declared.term.TermRec.{TermRec}
 use Rattle.record_layouts.specs.declared.exit.ExitRec.{ExitRec}
-use Rattle.record_layouts.specs.Unix.{Unix, Process, CallState, Out, In, EndedChild, Description, Object, OnFile, OnTty, Terminal, Position, AtKernel, AtUser, in_use}
+use Rattle.record_layouts.specs.Unix.{most_pids, Unix, Process, CallState, Out, In, EndedChild, Description, Object, OnFile, OnTty, Terminal, Position, AtKernel, AtUser, in_use}
 use Rattle.record_layouts.specs.Choice.{least_from}
 use Rattle.record_layouts.specs.Held.{Records}
 use Rattle.record_layouts.specs.Pages.{is_live, is_mapped, pages_of}
@@ -31,7 +31,7 @@ is_number None number = false
 
 -- the pid that is live in a slot, the least where there are several
 unfoldable pub pid_in : Records → (slot : ℕ) → Option ℕ
-pid_in r slot = least_from (λ pid. is_number (slot_by (r.exits pid)) slot) 1 256
+pid_in r slot = least_from (λ pid. is_number (slot_by (r.exits pid)) slot) 1 most_pids
 
 abbrev pub call_of : ProcRec → CallState
 call_of process = if process.state == 2 then In process.call process.done else Out

@@ -1,5 +1,5 @@
 -- The record of a file.
-use Rattle.std.specs.Prelude.{◌≡◌, ℕ, ◌<◌, ◌≤◌, Bool, nat_le, ◌==◌, ◌&&◌, ◌||◌, List, length, take, drop, slice_index, All, Option}
+use Rattle.std.specs.Prelude.{◌≡◌, ℕ, ◌<◌, ◌≤◌, Bool, nat_le, ◌==◌, ◌&&◌, ◌||◌, List, length, take, drop, slice_index, All, Option, Some, None}
 use Rattle.std.specs.List.{list_all}
 use Rattle.ow_base.specs.World.{IsName}
 use Rattle.ow_base.specs.Seals.{AreWords, IsSealed}
@@ -65,3 +65,11 @@ fits_file file =
 unfoldable pub file_in : (words : List ℕ) → Option FileRec
 file_in words =
     only_where (is_sealed_record 96 0x46494c45 words && are_zero words 75 95 && fits_file (file_fields words)) (file_fields words)
+
+-- the file, where each of its data sectors is one of a disk of so many
+abbrev pub if_on_disk : (sectors : ℕ) → Option FileRec → Option FileRec
+if_on_disk sectors (Some file) = only_where (are_below sectors (take file.kept file.sectors)) file
+if_on_disk sectors None = None
+
+abbrev pub file_on_disk : (sectors : ℕ) → (words : List ℕ) → Option FileRec
+file_on_disk sectors words = if_on_disk sectors (file_in words)

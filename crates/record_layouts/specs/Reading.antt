@@ -14,7 +14,7 @@ use Rattle.record_layouts.specs.Head.{head_in}
 use Rattle.record_layouts.specs.Proc.{proc_in}
 use Rattle.record_layouts.specs.Sig.{sig_in}
 use Rattle.record_layouts.specs.Desc.{desc_in}
-use Rattle.record_layouts.specs.File.{file_in}
+use Rattle.record_layouts.specs.File.{file_on_disk}
 use Rattle.record_layouts.specs.Cache.{cache_in}
 use Rattle.record_layouts.specs.Term.{term_in}
 use Rattle.record_layouts.specs.Row.{row_in}
@@ -32,7 +32,8 @@ pub record FitsMap (map : MemoryMap) : Type 0 where
 abbrev pub words_of : Area → RecordId → List ℕ
 words_of area id = words_from area (first_word id) (length_of id)
 
--- The records that stand in an area, none behind the last of a kind. The head is read where the area is readable.
+-- The records that stand in an area, none behind the last of a kind. The head is read where the area is readable, and a
+-- file where its data sectors are on the disk.
 -- Frame 10 has the owners of user frames, and from word 960 on those of cache entries; the three tables of each slot
 -- stand in the frames from 16 on.
 unfoldable pub records_in : MemoryMap → (is_readable : Bool) → Area → Records
@@ -42,7 +43,7 @@ records_in map is_readable area = record {
   procs = λ slot. if nat_lt slot 16 then proc_in (words_of area (Proc slot)) else None;
   sigs = λ slot. if nat_lt slot 16 then sig_in (words_of area (Sig slot)) else None;
   descs = λ i. if nat_lt i 32 then desc_in (words_of area (Desc i)) else None;
-  files = λ i. if nat_lt i 32 then file_in (words_of area (File i)) else None;
+  files = λ i. if nat_lt i 32 then file_on_disk map.sectors (words_of area (File i)) else None;
   caches = λ i. if nat_lt i 64 then cache_in (words_of area (Cache i)) else None;
   terms = λ tty. if nat_lt tty 2 then term_in (words_of area (Term tty)) else None;
   rows = λ i. if nat_lt i 48 then row_in (words_of area (Row i)) else None;

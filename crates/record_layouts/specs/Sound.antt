@@ -1,5 +1,5 @@
 -- What holds of a kernel's records between its turns: each one decodes, and they agree with each other.
-use Rattle.std.specs.Prelude.{◌≡◌, ◌≢◌, ℕ, ◌+◌, ◌-◌, ◌*◌, ◌/◌, ◌%◌, ◌<◌, ◌≤◌, ◌⊎◌, ◌↔◌, Bool, true, false, nat_lt, not, ◌==◌, ◌&&◌, ◌||◌, List, slice_index, Option, Some, None, is_some}
+use Rattle.std.specs.Prelude.{◌≡◌, ◌≢◌, ℕ, ◌+◌, ◌-◌, ◌*◌, ◌/◌, ◌%◌, ◌<◌, ◌≤◌, ◌⊎◌, ◌↔◌, Bool, true, false, nat_lt, not, ◌==◌, ◌&&◌, ◌||◌, List, slice_index, Option, Some, None, is_some, IfSome}
 use Rattle.ow_base.specs.UserStep.{register}
 use Rattle.record_layouts.specs.declared.head.HeadRec.{HeadRec}
 use Rattle.record_layouts.specs.declared.proc.ProcRec.{ProcRec}
@@ -62,6 +62,12 @@ pub record AreInCalls (r : Records) : Type 0 where
   -- a descriptor names a description that is open
   pub described : (slot : ℕ) (process : ProcRec) → IsIn r slot process → (fd : ℕ) → fd < 8 → slice_index process.descs fd ≢ 0
       → (description : DescRec) × (r.descs (slice_index process.descs fd - 1) ≡ Some description) × (description.object ≢ 0)
+
+-- Each description that a live process names is on a terminal, as there are no files yet. A description that only
+-- processes named that have ended may be on anything.
+pub record AreOnTerminals (r : Records) : Type 0 where
+  pub each : (slot : ℕ) (process : ProcRec) → IsIn r slot process → (fd : ℕ) → fd < 8 → slice_index process.descs fd ≢ 0
+      → IfSome (r.descs (slice_index process.descs fd - 1)) (λ description. description.object ≢ 1)
 
 -- a word of a slot's tables that a page of the process uses, or that names a table
 abbrev pub is_table_place : ProcRec → (table word : ℕ) → Bool

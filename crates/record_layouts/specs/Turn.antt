@@ -1,9 +1,9 @@
 -- Turn: one user instruction, or one trap.
-use Rattle.std.specs.Prelude.{ℕ, ◌+◌, ◌-◌, nat_lt, ◌==◌, if◌then◌else◌, Option, Some, None}
+use Rattle.std.specs.Prelude.{ℕ, ◌+◌, nat_lt, ◌==◌, if◌then◌else◌, Option, Some, None}
 use Rattle.ow_base.specs.UserStep.{Stepped, Next, Call, Faulted, user_step}
 use Rattle.ow_base.specs.Pages.{Pages, page_space}
 use Rattle.record_layouts.specs.Unix.{Unix, Process, Position, AtKernel, AtUser, AtPanic}
-use Rattle.record_layouts.specs.Choice.{Keys, no_keys, chosen, deliverable, settled, is_any_live}
+use Rattle.record_layouts.specs.Choice.{Keys, no_keys, chosen, deliverable, settled, has_live_process}
 use Rattle.record_layouts.specs.Signals.{signalled}
 use Rattle.record_layouts.specs.Calls.{trapped, with_process, ended_as, entered, piece_of}
 use Rattle.ow_base.specs.declared.machine.Shape.{Shape}
@@ -60,7 +60,7 @@ turn shape u = turn_at no_keys shape.quantum (settled no_keys u) (settled no_key
 -- Ends: where no process is live the run is done; else it ends where the steps equal the budget
 unfoldable pub ending_of : Shape → Unix → Option Ending
 ending_of shape u =
-    if is_any_live u.processes 1 (u.next_pid - 1)
+    if has_live_process u
     then (if u.steps == shape.budget then Some Budget else None)
     else Some Done
 

@@ -10,6 +10,10 @@ use Rattle.ow_base.specs.declared.worlds.Load.{Load}
 use Rattle.ow_base.specs.declared.worlds.Program.{Program}
 use Rattle.ow_base.specs.declared.worlds.Start.{Start as Started}
 
+-- pids are 1 to 256
+abbrev pub most_pids : ℕ
+most_pids = 256
+
 -- a process is outside a call, or in one of this number, of which so many bytes are done
 pub data CallState : Type 0 where
   Out : CallState
@@ -100,9 +104,9 @@ unfoldable pub is_named : (processes : ℕ → Option Process) → (number first
 is_named processes number first zero = false
 is_named processes number first (suc count) = is_named_by number (processes first) || is_named processes number (first + 1) count
 
--- of these descriptions those that are in use: a live process has a descriptor that names them; pids are 1 to 256
+-- of these descriptions those that are in use: a live process has a descriptor that names them
 unfoldable pub in_use : (processes : ℕ → Option Process) → (ℕ → Option Description) → ℕ → Option Description
-in_use processes descriptions number = if is_named processes number 1 256 then descriptions number else None
+in_use processes descriptions number = if is_named processes number 1 most_pids then descriptions number else None
 
 -- the address of the code, and the page numbers of code and stack
 abbrev pub code_start : ℕ

@@ -1,9 +1,10 @@
 -- Each record that is read from words is one that can be spelled.
-use Rattle.std.proofs.Common.{◌≡◌, ℕ, Bool, true, false, if◌then◌else◌, List, slice_index, Option, None, IfSome, refl}
+use Rattle.std.proofs.Common.{◌≡◌, ℕ, Bool, true, false, if◌then◌else◌, List, slice_index, Option, Some, None, IfSome, refl}
 use Rattle.std.proofs.lemmas.Bool.{and_parts}
 use Rattle.std.proofs.lemmas.Bool.Decides.{Decides-ltb}
 use Rattle.ow_base.specs.Sv32.{WordMap}
 use Rattle.record_layouts.specs.declared.memory_map.MemoryMap.{MemoryMap}
+use Rattle.record_layouts.specs.declared.file.FileRec.{FileRec}
 use Rattle.record_layouts.specs.Spelling.{only_where}
 use Rattle.record_layouts.specs.Overlay.{Area}
 use Rattle.record_layouts.specs.Held.{AreValues}
@@ -12,7 +13,7 @@ use Rattle.record_layouts.specs.Head.{FitsHead, head_fields, head_in}
 use Rattle.record_layouts.specs.Proc.{FitsProc, proc_fields, proc_in}
 use Rattle.record_layouts.specs.Sig.{FitsSig, sig_fields, sig_in}
 use Rattle.record_layouts.specs.Desc.{FitsDesc, desc_fields, desc_in}
-use Rattle.record_layouts.specs.File.{FitsFile, file_fields, file_in}
+use Rattle.record_layouts.specs.File.{FitsFile, file_fields, file_in, file_on_disk, if_on_disk}
 use Rattle.record_layouts.specs.Cache.{FitsCache, cache_fields, cache_in}
 use Rattle.record_layouts.specs.Term.{FitsTerm, term_fields, term_in}
 use Rattle.record_layouts.specs.Row.{FitsRow, row_fields, row_in}
@@ -56,6 +57,10 @@ unfolding file_in
 file_fits words = some_fits FitsFile _ (file_fields words) (λ holds. (fits_file-decides (file_fields words)).0
     (and_parts _ _ holds).1)
 
+on_disk_fits : (sectors : ℕ) (held : Option FileRec) → IfSome held FitsFile → IfSome (if_on_disk sectors held) FitsFile
+on_disk_fits sectors (Some file) fits = some_fits FitsFile _ file (λ holds. fits)
+on_disk_fits sectors None fits = tt
+
 pub cache_fits : (words : List ℕ) → IfSome (cache_in words) FitsCache
 unfolding cache_in
 cache_fits words = some_fits FitsCache _ (cache_fields words) (λ holds. (fits_cache-decides (cache_fields words)).0
@@ -83,7 +88,7 @@ are_values_in map is_readable area = record {
   procs = λ i. guarded FitsProc _ _ (proc_fits _);
   sigs = λ i. guarded FitsSig _ _ (sig_fits _);
   descs = λ i. guarded FitsDesc _ _ (desc_fits _);
-  files = λ i. guarded FitsFile _ _ (file_fits _);
+  files = λ i. guarded FitsFile _ _ (on_disk_fits map.sectors _ (file_fits _));
   caches = λ i. guarded FitsCache _ _ (cache_fits _);
   terms = λ i. guarded FitsTerm _ _ (term_fits _);
   rows = λ i. guarded FitsRow _ _ (row_fits _);

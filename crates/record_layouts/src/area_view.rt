@@ -121,7 +121,7 @@ impl<W: WordSource> RecordView for AreaView<'_, W> {
     fn file(&self, i: u32) -> Option<FileRec> {
         let mut words = [0; 96];
         self.read(RecordId::File(i), &mut words);
-        FileRec::from_words(&words)
+        FileRec::on_disk(&words, self.map.sectors)
     }
 
     fn cache(&self, i: u32) -> Option<CacheRec> {
@@ -177,6 +177,3 @@ impl<W: WordSource> RecordView for AreaView<'_, W> {
         self.map.pool_base
     }
 }
-
-#[cfg(test)]
-mod tests;

@@ -73,6 +73,3 @@ pub const fn cache_entries_are_spelled_once()
     ensures changed { (words : List ℕ) (entry : CacheRec) → IsCache words entry → (i value : ℕ) → i < 8 → value < 2 ^ 32
         → value ≢ slice_index words i → (other : CacheRec) → IsCache (slice_set words i value) other → ⊥ }
 {}
-
-#[cfg(test)]
-mod tests;

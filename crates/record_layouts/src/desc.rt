@@ -85,6 +85,3 @@ pub const fn descriptions_are_spelled_once()
     ensures changed { (words : List ℕ) (desc : DescRec) → IsDesc words desc → (i value : ℕ) → i < 16 → value < 2 ^ 32
         → value ≢ slice_index words i → (other : DescRec) → IsDesc (slice_set words i value) other → ⊥ }
 {}
-
-#[cfg(test)]
-mod tests;

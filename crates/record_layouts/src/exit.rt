@@ -71,6 +71,3 @@ pub const fn exits_are_spelled_once()
     ensures changed { (words : List ℕ) (exit : ExitRec) → IsExit words exit → (i value : ℕ) → i < 4 → value < 2 ^ 32
         → value ≢ slice_index words i → (other : ExitRec) → IsExit (slice_set words i value) other → ⊥ }
 {}
-
-#[cfg(test)]
-mod tests;

@@ -4,7 +4,7 @@ ghost use Rattle.std.specs.Prelude.{◌≡◌, ◌≢◌, ℕ, ◌^◌, ◌<◌,
 ghost use Rattle.record_layouts.specs.declared.file.FileRec.{FileRec};
 ghost use Rattle.ow_base.specs.World.{IsName};
 ghost use Rattle.record_layouts.specs.Spelling.{AreZero};
-ghost use Rattle.record_layouts.specs.File.{FitsState, FitsFile, IsFile, file_in};
+ghost use Rattle.record_layouts.specs.File.{FitsState, FitsFile, IsFile, file_in, file_on_disk};
 
 use crate::packing::{pack, unpack};
 use crate::spelling::are_zero;
@@ -79,6 +79,19 @@ impl FileRec {
         if file.fits() { Some(file) } else { None }
     }
 
+    /// The file whose record the words are, where each of its data sectors is one of a disk of so many.
+    pub(crate) fn on_disk(words: &[u32; 96], sectors: u32) -> Option<FileRec>
+        ensures read { result ≡ file_on_disk sectors words.now }
+        ensures fits { IfSome result FitsFile }
+    {
+        let file = FileRec::from_words(words)?;
+        if file.is_on_disk(sectors) {
+            Some(file)
+        } else {
+            None
+        }
+    }
+
     fn fits(&self) -> bool
         ensures { IsTrue result ↔ FitsFile self.now }
     {
@@ -86,7 +99,7 @@ impl FileRec {
             && self.state_fits()
             && self.name_ends()
             && self.kept as usize <= PAGES
-            && self.sectors_fit()
+            && self.is_on_disk(SECTORS)
             && are_zero(&self.sectors, self.kept as usize, PAGES)
     }
 
@@ -108,13 +121,13 @@ impl FileRec {
         are_empty(&self.name[self.name_len as usize..])
     }
 
-    fn sectors_fit(&self) -> bool
+    fn is_on_disk(&self, sectors: u32) -> bool
         requires { self.now.kept ≤ 64 }
-        ensures { IsTrue result ↔ All (λ sector. sector < 2048) (take self.now.kept self.now.sectors) }
+        ensures { IsTrue result ↔ All (λ sector. sector < sectors) (take self.now.kept self.now.sectors) }
     {
         self.sectors[..self.kept as usize]
             .iter()
-            .all(|sector| *sector < SECTORS)
+            .all(|sector| *sector < sectors)
     }
 }
 
@@ -141,6 +154,3 @@ fn are_empty(bytes: &[u8]) -> bool
 {
     bytes.iter().all(|byte| *byte == 0)
 }
-
-#[cfg(test)]
-mod tests;

@@ -76,6 +76,3 @@ pub const fn heads_are_spelled_once()
     ensures changed { (words : List ℕ) (head : HeadRec) → IsHead words head → (i value : ℕ) → i < 16 → value < 2 ^ 32
         → value ≢ slice_index words i → (other : HeadRec) → IsHead (slice_set words i value) other → ⊥ }
 {}
-
-#[cfg(test)]
-mod tests;

@@ -51,6 +51,3 @@ pub fn change_at<W: WordSource>(source: &W, base: u32, place: u32, end: u32) -> 
 {
     Area { source, base }.change(place, end)
 }
-
-#[cfg(test)]
-mod tests;

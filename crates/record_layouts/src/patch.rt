@@ -76,6 +76,3 @@ impl Patch {
         self.items.push(PatchItem { id, rec });
     }
 }
-
-#[cfg(test)]
-mod tests;

@@ -51,6 +51,3 @@ pub const fn records_lie_apart()
     ensures apart { (one other : RecordId) → IsRecordId one → IsRecordId other → one ≢ other → AreApart one other }
     ensures changed { (id : RecordId) → IsRecordId id → may_change (first_word id) (first_word id + length_of id) ≡ true }
 {}
-
-#[cfg(test)]
-mod tests;

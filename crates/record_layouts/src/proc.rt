@@ -290,6 +290,3 @@ pub const fn processes_are_spelled_once()
     ensures changed { (words : List ℕ) (process : ProcRec) → IsProc words process → (i value : ℕ) → i < 128 → value < 2 ^ 32
         → value ≢ slice_index words i → (other : ProcRec) → IsProc (slice_set words i value) other → ⊥ }
 {}
-
-#[cfg(test)]
-mod tests;

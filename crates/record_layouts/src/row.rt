@@ -61,6 +61,3 @@ pub const fn rows_are_spelled_once()
     ensures changed { (words : List ℕ) (row : RowRec) → IsRow words row → (i value : ℕ) → i < 24 → value < 2 ^ 32
         → value ≢ slice_index words i → (other : RowRec) → IsRow (slice_set words i value) other → ⊥ }
 {}
-
-#[cfg(test)]
-mod tests;

@@ -70,6 +70,3 @@ pub const fn signals_are_spelled_once()
     ensures changed { (words : List ℕ) (signals : SigRec) → IsSig words signals → (i value : ℕ) → i < 32 → value < 2 ^ 32
         → value ≢ slice_index words i → (other : SigRec) → IsSig (slice_set words i value) other → ⊥ }
 {}
-
-#[cfg(test)]
-mod tests;

@@ -87,6 +87,3 @@ pub const fn terminals_are_spelled_once()
     ensures changed { (words : List ℕ) (term : TermRec) → IsTerm words term → (i value : ℕ) → i < 16 → value < 2 ^ 32
         → value ≢ slice_index words i → (other : TermRec) → IsTerm (slice_set words i value) other → ⊥ }
 {}
-
-#[cfg(test)]
-mod tests;

@@ -15,9 +15,10 @@ use ow_base::WordSource;
 /// The records of an area, of a kernel that runs or of one that is dead.
 ///
 /// Contracts see them as `Records`. A getter answers `None` exactly where the words of the record are the record of no
-/// value, and a record that it gives is one that can be spelled. Each number that it is handed is one of the layout's: a slot is below 16, a description or file below 32, a
-/// cache entry below 64, a terminal below 2, a row below 48, and a pid 1 to 256. Frames are frames of memory, but that
-/// `owner` and `cache_owner` count user frames and cache entries from 0.
+/// value, and for a file also where one of its data sectors is none of the disk; a record that it gives is one that can
+/// be spelled. Each number that it is handed is one of the layout's: a slot is below 16, a description or file below
+/// 32, a cache entry below 64, a terminal below 2, a row below 48, and a pid 1 to 256. Frames are frames of memory, but
+/// that `owner` and `cache_owner` count user frames and cache entries from 0.
 pub trait RecordView: WordSource {
     ghost use Rattle.record_layouts.specs.Held.{AreValues, Records};
     ghost use Rattle.record_layouts.specs.Head.{FitsHead};

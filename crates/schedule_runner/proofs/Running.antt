@@ -6,7 +6,7 @@ use Rattle.ow_base.specs.declared.machine.Shape.{Shape}
 use Rattle.ow_base.specs.declared.worlds.Ending.{Ending}
 use Rattle.ow_base.specs.declared.worlds.Load.{Load}
 use Rattle.ow_base.specs.declared.worlds.Ending.TheVariants.{Done, Budget}
-use Rattle.record_layouts.specs.Choice.{is_any_live}
+use Rattle.record_layouts.specs.Choice.{has_live_process}
 use Rattle.record_layouts.specs.Decode.{unix_of}
 use Rattle.record_layouts.specs.Run.{RunsFrom, ends, goes_on}
 use Rattle.record_layouts.specs.Turn.{closed, ending_of, turn}
@@ -57,7 +57,7 @@ runs_on shape s t live some made ending w later =
 
 -- where not all have ended some process is live
 pub some_live : (s : PlantState) → (AllHaveEnded s → ⊥) → IsSomeLive s
-some_live s some = elim (cases_Bool (is_any_live (unix_at s).processes 1 ((unix_at s).next_pid - 1))) [ inl live ↦ live | inr ended ↦ absurd (some ended) ]
+some_live s some = elim (cases_Bool (has_live_process (unix_at s))) [ inl live ↦ live | inr ended ↦ absurd (some ended) ]
 
 not_told : (answer : Bool) → answer ≡ false → IsTrue answer → ⊥
 not_told answer off on = absurd (cc)
@@ -83,43 +83,52 @@ some_left load first s t shaped same turned =
 
 -- what holds of a run that has come to a plant
 pub record HasCome (load : Load) (first s : PlantState) : Type 0 where
+  pub of_shape : first.shape ≡ load.shape
   pub sound : IsSound s
   pub same : IsSameMachine first s
   pub few : s.traps ≤ s.steps
+  pub most : load.shape.budget ≤ 2000000
   pub so_far : (ending : Ending) (w : Unix) → RunsFrom load.shape (unix_at s) [] ending w → RunsFrom load.shape (start_of load) [] ending w
 
 no_traps : (load : Load) → (start_of load).traps ≡ 0
 unfolding start_of
 no_traps load = refl
 
-pub comes_first : (load : Load) (first s : PlantState) → IsSound s → IsSameMachine first s → unix_at s ≡ start_of load → HasCome load first s
-comes_first load first s sound same started =
+pub comes_first : (load : Load) (first s : PlantState) → first.shape ≡ load.shape → first.shape.budget ≤ 2000000 → IsSound s → IsSameMachine first s → unix_at s ≡ start_of load → HasCome load first s
+comes_first load first s shaped most sound same started =
     let none : s.traps ≡ 0 = sym (traps_at s) ∙ ap (λ (u : Unix). u.traps) started ∙ no_traps load in
     record {
+      of_shape = shaped;
       sound = sound;
       same = same;
       few = omega (arith, none);
+      most = subst (λ (m : Shape). m.budget ≤ 2000000) shaped most;
       so_far = λ ending w later. subst (λ (u : Unix). RunsFrom load.shape u [] ending w) started later;
     }
 
-pub comes_on : (load : Load) (first s t : PlantState) → first.shape ≡ load.shape → HasCome load first s → IsSomeLive s → IsTurned s t → t.traps ≤ s.traps + 1 → HasCome load first t
-comes_on load first s t shaped come live turned more =
-    let shape : s.shape ≡ load.shape = come.same.shape ∙ shaped in
-    let some : s.steps < load.shape.budget = some_left load first s t shaped come.same turned in
+pub comes_on : (load : Load) (first s t : PlantState) → HasCome load first s → IsSomeLive s → IsTurned s t → t.traps ≤ s.traps + 1 → HasCome load first t
+comes_on load first s t come live turned more =
+    let shape : s.shape ≡ load.shape = come.same.shape ∙ come.of_shape in
+    let some : s.steps < load.shape.budget = some_left load first s t come.of_shape come.same turned in
     record {
+      of_shape = come.of_shape;
       sound = turned.sound;
       same = same_then first s t come.same turned.same;
       few = omega (arith, come.few, more, turned.steps);
+      most = come.most;
       so_far = λ ending w later. come.so_far ending w
           (runs_on load.shape s t live some (subst (λ (m : Shape). unix_at t ≡ turn m (unix_at s)) shape turned.turn) ending w later);
     }
 
 -- a closing trap has a number
 pub few_traps : (load : Load) (first s : PlantState) → HasCome load first s → s.traps < 4294967294
-few_traps load first s come = omega (arith, come.few, come.sound.budget, come.sound.most)
+few_traps load first s come =
+    let shape : s.shape ≡ load.shape = come.same.shape ∙ come.of_shape in
+    let budget : s.steps ≤ load.shape.budget = subst (λ (m : Shape). s.steps ≤ m.budget) shape come.sound.budget in
+    omega (arith, come.few, budget, come.most)
 
-pub comes_nearer : (load : Load) (first s t : PlantState) → first.shape ≡ load.shape → HasCome load first s → IsTurned s t
+pub comes_nearer : (load : Load) (first s t : PlantState) → HasCome load first s → IsTurned s t
     → load.shape.budget - t.steps < load.shape.budget - s.steps
-comes_nearer load first s t shaped come turned =
-    let some : s.steps < load.shape.budget = some_left load first s t shaped come.same turned in
+comes_nearer load first s t come turned =
+    let some : s.steps < load.shape.budget = some_left load first s t come.of_shape come.same turned in
     omega (arith, some, turned.steps)

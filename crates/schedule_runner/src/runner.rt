@@ -38,6 +38,7 @@ pub fn run(plant: &mut Plant, load: &Load) -> Ending
     ensures sound { IsSound plant.new }
     ensures same { IsSameMachine plant.old plant.new }
 {
+    plant.fits_shape();
     boot(plant, load);
     loop {
         if plant.steps() == load.shape.budget && !all_have_ended(plant) {

@@ -9,14 +9,12 @@ use Rattle.record_layouts.specs.Calls.{entered, piece_of}
 use Rattle.record_layouts.specs.Held.{Records}
 use Rattle.record_layouts.specs.Pages.{is_mapped}
 use Rattle.record_layouts.specs.Decode.{Context, InKernel, InUser, process_of, processes_of, unix_of}
-use Rattle.record_layouts.specs.Sound.{IsIn, IsInCall, AreSound}
+use Rattle.record_layouts.specs.Sound.{IsIn, AreSound}
 use Rattle.process_table.specs.Meaning.{IsOf}
-use Rattle.syscalls.specs.Done.{IsDone, KeepsSound}
+use Rattle.syscalls.specs.Done.{IsDone}
 use Rattle.syscalls.specs.Planned.{planned_call, planned_piece}
-use Rattle.syscalls.specs.Serving.{AreOnTerminals, CanCall, IsInWrite}
-use Rattle.syscalls.proofs.Naming.{in_write}
+use Rattle.syscalls.specs.Serving.{CanCall, IsInside}
 use Rattle.syscalls.proofs.Becoming.{bank_by, caller_decodes}
-use Rattle.syscalls.proofs.KeptSound.{piece_keeps}
 use Rattle.syscalls.proofs.Served.{served_call, served_further}
 
 -- the process of a pid is the one that its records are
@@ -29,45 +27,32 @@ caller_is r words context slot process p sound is of held =
 
 pub entered_then : (r : Records) (words : WordMap) (tapes : ℕ → List ℕ) (slot trap count : ℕ) (head : HeadRec) (process : ProcRec) (bank : Bank)
     (steps traps : ℕ) (p : Process) (done : Records) (done_tapes : ℕ → List ℕ)
-    → AreSound r → AreOnTerminals r → r.head ≡ Some head → IsIn r slot process
+    → AreSound r → r.head ≡ Some head → IsIn r slot process
     → (unix_of r words tapes (InUser process.pid count bank) steps traps).processes process.pid ≡ Some p
     → IsDone r words tapes slot process (planned_call r words slot trap head process bank) done done_tapes
     → unix_of done words done_tapes InKernel (steps + 1) (traps + 1) ≡ entered (unix_of r words tapes (InUser process.pid count bank) steps traps) process.pid p
 unfolding unix_of
-entered_then r words tapes slot trap count head process bank steps traps p done done_tapes sound others is_head is held served =
-    served_call r head slot process trap words tapes (InUser process.pid count bank) steps traps sound is_head is refl done done_tapes others served
+entered_then r words tapes slot trap count head process bank steps traps p done done_tapes sound is_head is held served =
+    served_call r head slot process trap words tapes (InUser process.pid count bank) steps traps sound is_head is refl done done_tapes served
     ∙ ap (entered (unix_of r words tapes (InUser process.pid count bank) steps traps) process.pid) (caller_is r words (InUser process.pid count bank) slot process p sound is refl held)
 
-write_is : (r : Records) (process : ProcRec) → process.call ≡ 2 → process.state ≡ 2 → IsInCall r process → IsInWrite r (Some process)
-write_is r process call state (inl (is, transfer)) = (state, call, transfer)
-write_is r process call state (inr (inl reads)) = absurd (omega (arith, call, reads.0))
-write_is r process call state (inr (inr waits)) = absurd (omega (arith, call, waits.0))
-
-pub writes_on : (r : Records) (slot : ℕ) (process : ProcRec) → AreSound r → IsIn r slot process → process.state ≡ 2 → process.call ≡ 2 → IsInWrite r (r.procs slot)
-writes_on r slot process sound is state call =
-    subst (IsInWrite r) (sym is.there) (write_is r process call state (sound.in_calls.calls slot process is state))
+pub is_inside : (r : Records) (slot : ℕ) (process : ProcRec) → AreSound r → IsIn r slot process → process.state ≡ 2 → IsInside r (r.procs slot)
+is_inside r slot process sound is state = subst (IsInside r) (sym is.there) (state, sound.in_calls.calls slot process is state)
 
 pub goes_on_then : (r : Records) (words : WordMap) (tapes : ℕ → List ℕ) (slot trap : ℕ) (head : HeadRec) (process : ProcRec)
     (steps traps : ℕ) (p : Process) (done : Records) (done_tapes : ℕ → List ℕ)
-    → AreSound r → AreOnTerminals r → r.head ≡ Some head → IsIn r slot process → process.state ≡ 2 → process.call ≡ 2
+    → AreSound r → r.head ≡ Some head → IsIn r slot process → process.state ≡ 2
     → (unix_of r words tapes InKernel steps traps).processes process.pid ≡ Some p
     → IsDone r words tapes slot process (planned_piece r words slot trap head process) done done_tapes
     → unix_of done words done_tapes InKernel (steps + 1) (traps + 1) ≡ piece_of (unix_of r words tapes InKernel steps traps) process.pid p
 unfolding unix_of
-goes_on_then r words tapes slot trap head process steps traps p done done_tapes sound others is_head is state call held served =
-    served_further r head slot process trap words tapes steps traps sound is_head is done done_tapes others
-    (in_write r slot process sound.values is.there (writes_on r slot process sound is state call)) state served
+goes_on_then r words tapes slot trap head process steps traps p done done_tapes sound is_head is state held served =
+    served_further r head slot process trap words tapes steps traps sound is_head is done done_tapes state served
     ∙ ap (piece_of (unix_of r words tapes InKernel steps traps) process.pid) (caller_is r words InKernel slot process p sound is tt held)
 
-pub can_call : (r : Records) (slot : ℕ) (process : ProcRec) → AreSound r → AreOnTerminals r → IsIn r slot process → CanCall r slot
-can_call r slot process sound others is = record {
+pub can_call : (r : Records) (slot : ℕ) (process : ProcRec) → AreSound r → IsIn r slot process → CanCall r slot
+can_call r slot process sound is = record {
   within = is.within;
   complete = sound.complete;
-  on_terminals = others;
   mapped = subst (λ (held : Option ProcRec). IfSome held (λ p. is_mapped r slot p ≡ true)) (sym is.there) (sound.mapped.mapped slot process is);
 }
-
-pub further_keeps : (r : Records) (words : WordMap) (slot trap : ℕ) (head : HeadRec) (process : ProcRec) → AreSound r → r.head ≡ Some head → IsIn r slot process
-    → process.state ≡ 2 → process.call ≡ 2 → KeepsSound r (planned_piece r words slot trap head process)
-further_keeps r words slot trap head process sound is_head is state call =
-    piece_keeps r words slot trap head process sound is_head is (in_write r slot process sound.values is.there (writes_on r slot process sound is state call))

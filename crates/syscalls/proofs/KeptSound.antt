@@ -22,11 +22,11 @@ use Rattle.process_table.specs.Patches.{bank_of, ended_items, saved_process}
 use Rattle.process_table.proofs.Ended.{live_fits}
 use Rattle.process_table.proofs.EndedSound.{ended_sound}
 use Rattle.process_table.proofs.Regions.{SameRegions}
-use Rattle.syscalls.specs.Planned.{Planned, PlanOnce, PlanWrite, answered_process, argument_of, caller_with, if_open, is_written, items_of, named, named_by, planned_answer, planned_call, planned_further, planned_number, planned_piece, planned_tty, planned_write, planned_write_on, staying_process, stopped_answer, written_process, yielded_process}
+use Rattle.syscalls.specs.Planned.{Planned, PlanOnce, PlanWrite, answered_process, argument_of, caller_with, if_open, is_written, items_of, named, named_by, planned_answer, planned_call, planned_further, planned_number, planned_on, planned_piece, planned_tty, planned_write, planned_write_on, staying_process, stopped_answer, written_process, yielded_process}
 use Rattle.syscalls.specs.Done.{KeepsSound}
 use Rattle.syscalls.proofs.Becoming.{IsAfter}
 use Rattle.syscalls.proofs.AfterSound.{after_sound}
-use Rattle.syscalls.proofs.Naming.{InWrite}
+use Rattle.syscalls.proofs.Naming.{InWrite, in_write}
 
 -- what a process has that a descriptor of it names a description
 pub record IsNamed (r : Records) (words : List ℕ) (descriptor : ℕ) (d : DescRec) : Type 0 where
@@ -148,15 +148,40 @@ module _ (r : Records) (head : HeadRec) (slot : ℕ) (process : ProcRec) (bank :
   pub yielded_sound : AreSound (with_items r (items_of (caller_with slot trap head saved) (yielded_process saved)))
   yielded_sound = after_sound r head slot process (yielded_process saved) trap sound is_head is yielded_after yielded_fits (λ s. absurd (omega (arith, s)))
 
+  same_fits : FitsProc saved
+  same_fits = record {
+    state = process_fits.state;
+    free = λ s. absurd (grind (arith, nat_tests, is.live, s));
+    live = λ s. record {
+      pid = held.pid;
+      parent = held.parent;
+      code_pages = held.code_pages;
+      data_pages = held.data_pages;
+      heap_end = held.heap_end;
+      flags = held.flags;
+      status = held.status;
+      descs = held.descs;
+    };
+    no_call = process_fits.no_call;
+    none_done = process_fits.none_done;
+    ended = λ s. absurd (grind (arith, nat_tests, is.live, s));
+  }
+
+  same_after : IsAfter process saved
+  same_after = record { pid = refl; parent = refl; status = refl; descs = refl; regions = record { live = is.live; lives = is.live; code = refl; values = refl; brk = refl } }
+
+  pub nothing_sound : (process.state ≡ 2 → IsInCall r saved) → AreSound (with_items r (items_of (caller_with slot trap head saved) saved))
+  nothing_sound call = after_sound r head slot process saved trap sound is_head is same_after same_fits call
+
   pub exited_sound : (status : ℕ) → IsStatus status → AreSound (with_items r (ended_items head slot saved status trap))
   unfolding ended_items
   exited_sound status word = ended_sound r head slot process status trap sound is_head is word
 
-  in_write : (d : DescRec) (done : ℕ) → IsWrite r saved d → done < argument_of saved 2 → IsInCall r (staying_process saved done)
-  in_write d done write left = inl (refl, (d, record { descriptor = write.descriptor; named = write.named; there = write.there; allowed = write.allowed; count = write.count; left = left }))
+  stays_in_write : (d : DescRec) (done : ℕ) → IsWrite r saved d → done < argument_of saved 2 → IsInCall r (staying_process saved done)
+  stays_in_write d done write left = inl (refl, (d, record { descriptor = write.descriptor; named = write.named; there = write.there; allowed = write.allowed; count = write.count; left = left }))
 
   pub staying_sound : (d : DescRec) (done : ℕ) → IsWrite r saved d → done < argument_of saved 2 → AreSound (with_items r (items_of (caller_with slot trap head saved) (staying_process saved done)))
-  staying_sound d done write left = after_sound r head slot process (staying_process saved done) trap sound is_head is (staying_after done) (staying_fits done) (λ s. in_write d done write left)
+  staying_sound d done write left = after_sound r head slot process (staying_process saved done) trap sound is_head is (staying_after done) (staying_fits done) (λ s. stays_in_write d done write left)
 
   pub written_sound : (d : DescRec) (done : ℕ) → IsWrite r saved d → done ≤ argument_of saved 2
       → AreSound (with_items r (items_of (caller_with slot trap head saved) (written_process saved (argument_of saved 2) done)))
@@ -188,10 +213,18 @@ module _ (r : Records) (head : HeadRec) (slot : ℕ) (process : ProcRec) (bank :
         | inr some ↦ rw some (answered_sound r head slot process bank trap sound is_head is (stopped_answer done 14))
       ]
 
-  write_keeps : (d : DescRec) → IsNamed r process.descs (argument_of caller_saved 0) d → length process.descs ≡ 8
+  -- on a file nothing is done; a process in a call stays in it
+  on_keeps : (d : DescRec) (done : ℕ) → (process.state ≡ 2 → IsInCall r caller_saved) → IsWrite r caller_saved d → done < argument_of caller_saved 2
+      → KeepsSound r (planned_on pages (caller_with slot trap head caller_saved) d done)
+  on_keeps d done call write left = elim (cases_Bool (d.object == 1)) [
+    | inl file ↦ rw file (nothing_sound r head slot process bank trap sound is_head is call)
+    | inr terminal ↦ rw terminal (tty_keeps d d.index done write left)
+  ]
+
+  write_keeps : (d : DescRec) → process.state ≡ 1 → IsNamed r process.descs (argument_of caller_saved 0) d → length process.descs ≡ 8
       → KeepsSound r (planned_write_on pages (caller_with slot trap head caller_saved) (Some d))
   unfolding planned_write_on
-  write_keeps d it eight = elim (cases_Bool (is_written d)) [
+  write_keeps d out it eight = elim (cases_Bool (is_written d)) [
     | inl writes ↦ elim (cases_Bool (nat_lt 0x7fffffff (argument_of caller_saved 2))) [
       | inl many ↦ rw (writes, many) (answered_sound r head slot process bank trap sound is_head is (minus 22))
       | inr few ↦ elim (cases_Bool (argument_of caller_saved 2 == 0)) [
@@ -200,26 +233,26 @@ module _ (r : Records) (head : HeadRec) (slot : ℕ) (process : ProcRec) (bank :
             let count : argument_of caller_saved 2 ≤ 0x7fffffff = grind (arith, nat_tests) in
             let left : 0 < argument_of caller_saved 2 = grind (arith, nat_tests) in
             let write : IsWrite r caller_saved d = record { descriptor = omega (arith, it.within, eight); named = it.some; there = it.there; allowed = opens d writes; count = count } in
-            rw (writes, few, some) (tty_keeps d d.index 0 write left)
+            rw (writes, few, some) (on_keeps d 0 (λ s. absurd (omega (arith, s, out))) write left)
       ]
     ]
     | inr reads ↦ rw reads (answered_sound r head slot process bank trap sound is_head is (minus 9))
   ]
 
-  write_by : (held : Option DescRec) → ((d : DescRec) → held ≡ Some d → IsNamed r process.descs (argument_of caller_saved 0) d) → length process.descs ≡ 8
+  write_by : (held : Option DescRec) → process.state ≡ 1 → ((d : DescRec) → held ≡ Some d → IsNamed r process.descs (argument_of caller_saved 0) d) → length process.descs ≡ 8
       → KeepsSound r (planned_write_on pages (caller_with slot trap head caller_saved) held)
   unfolding planned_write_on
-  write_by None it eight = answered_sound r head slot process bank trap sound is_head is (minus 9)
-  write_by (Some d) it eight = write_keeps d (it d refl) eight
+  write_by None out it eight = answered_sound r head slot process bank trap sound is_head is (minus 9)
+  write_by (Some d) out it eight = write_keeps d out (it d refl) eight
 
-  pub number_keeps : (number : ℕ) → length process.descs ≡ 8 → KeepsSound r (planned_number r pages (caller_with slot trap head caller_saved) number)
+  pub number_keeps : (number : ℕ) → process.state ≡ 1 → length process.descs ≡ 8 → KeepsSound r (planned_number r pages (caller_with slot trap head caller_saved) number)
   unfolding planned_number planned_write
-  number_keeps number eight = elim (cases_Bool (number == 1)) [
+  number_keeps number out eight = elim (cases_Bool (number == 1)) [
     | inl exits ↦
         let small : argument_of caller_saved 0 % 256 ≤ 0xff = omega arith in
         rw exits (exited_sound r head slot process bank trap sound is_head is (argument_of caller_saved 0 % 256) (inl small))
     | inr no_exit ↦ elim (cases_Bool (number == 2)) [
-      | inl writes ↦ rw (no_exit, writes) (write_by (named r process.descs (argument_of caller_saved 0)) (λ d it. is_named r process.descs (argument_of caller_saved 0) d it) eight)
+      | inl writes ↦ rw (no_exit, writes) (write_by (named r process.descs (argument_of caller_saved 0)) out (λ d it. is_named r process.descs (argument_of caller_saved 0) d it) eight)
       | inr no_write ↦ elim (cases_Bool (number == 7)) [
         | inl asks ↦ rw (no_exit, no_write, asks) (answered_sound r head slot process bank trap sound is_head is process.pid)
         | inr no_pid ↦ elim (cases_Bool (number == 18)) [
@@ -230,18 +263,27 @@ module _ (r : Records) (head : HeadRec) (slot : ℕ) (process : ProcRec) (bank :
     ]
   ]
 
-pub call_keeps : (r : Records) (words : WordMap) (slot trap : ℕ) (head : HeadRec) (process : ProcRec) (bank : Bank) → AreSound r → r.head ≡ Some head → IsIn r slot process → length process.descs ≡ 8
-    → KeepsSound r (planned_call r words slot trap head process bank)
+pub call_keeps : (r : Records) (words : WordMap) (slot trap : ℕ) (head : HeadRec) (process : ProcRec) (bank : Bank) → AreSound r → r.head ≡ Some head → IsIn r slot process
+    → process.state ≡ 1 → length process.descs ≡ 8 → KeepsSound r (planned_call r words slot trap head process bank)
 unfolding planned_call
-call_keeps r words slot trap head process bank sound is_head is eight =
-    number_keeps r head slot process bank trap sound is_head is (pages_of r words slot process) (register bank.regs 17) eight
+call_keeps r words slot trap head process bank sound is_head is out eight =
+    number_keeps r head slot process bank trap sound is_head is (pages_of r words slot process) (register bank.regs 17) out eight
 
-pub piece_keeps : (r : Records) (words : WordMap) (slot trap : ℕ) (head : HeadRec) (process : ProcRec) → AreSound r → r.head ≡ Some head → IsIn r slot process → InWrite r process
-    → KeepsSound r (planned_piece r words slot trap head process)
-unfolding planned_piece
-piece_keeps r words slot trap head process sound is_head is it =
+write_goes_on : (r : Records) (words : WordMap) (slot trap : ℕ) (head : HeadRec) (process : ProcRec) → AreSound r → r.head ≡ Some head → IsIn r slot process → IsInCall r process → InWrite r process
+    → KeepsSound r (planned_further (pages_of r words slot process) (caller_with slot trap head process) (named r process.descs (argument_of process 0)))
+write_goes_on r words slot trap head process sound is_head is call it =
     let d = it.description in
     let t = it.transfer in
     let write : IsWrite r process d = record { descriptor = t.descriptor; named = t.named; there = t.there; allowed = t.allowed; count = t.count } in
     subst (λ (held : Option DescRec). KeepsSound r (planned_further (pages_of r words slot process) (caller_with slot trap head process) held)) (sym it.is_named)
-    (tty_keeps r head slot process (bank_of process) trap sound is_head is (pages_of r words slot process) d d.index process.done write t.left)
+    (on_keeps r head slot process (bank_of process) trap sound is_head is (pages_of r words slot process) d process.done (λ _. call) write t.left)
+
+pub piece_keeps : (r : Records) (words : WordMap) (slot trap : ℕ) (head : HeadRec) (process : ProcRec) → AreSound r → r.head ≡ Some head → IsIn r slot process → process.state ≡ 2
+    → KeepsSound r (planned_piece r words slot trap head process)
+unfolding planned_piece
+piece_keeps r words slot trap head process sound is_head is state =
+    let call : IsInCall r process = sound.in_calls.calls slot process is state in
+    elim (eqb_tells process.call 2) [
+      | inl (writes, two) ↦ rw writes (write_goes_on r words slot trap head process sound is_head is call (in_write r process sound.values call two))
+      | inr (other, differs) ↦ rw other (nothing_sound r head slot process (bank_of process) trap sound is_head is (λ _. call))
+    ]

@@ -7,9 +7,9 @@ use Rattle.record_layouts.specs.declared.proc.ProcRec.{ProcRec}
 use Rattle.record_layouts.specs.declared.desc.DescRec.{DescRec}
 use Rattle.record_layouts.specs.Desc.{FitsDesc}
 use Rattle.record_layouts.specs.Held.{Records, AreValues}
-use Rattle.record_layouts.specs.Sound.{IsOpenTo, IsTransfer}
+use Rattle.record_layouts.specs.Sound.{IsInCall, IsOpenTo, IsTransfer}
 use Rattle.syscalls.specs.Planned.{if_open, named, named_by}
-use Rattle.syscalls.specs.Serving.{AreOnTerminals, IsInWrite}
+use Rattle.syscalls.specs.Serving.{IsInside}
 
 -- a word of a list that is not 0 is there
 pub word_there : (words : List ℕ) (i : ℕ) → slice_index words i ≢ 0 → slice_get words i ≡ Some (slice_index words i)
@@ -17,31 +17,11 @@ word_there [] i some = absurd (some refl)
 word_there (word ∷ words) zero some = refl
 word_there (word ∷ words) (suc i) some = word_there words i some
 
--- where no description is on a file, a descriptor names one of a terminal
-by_kind : (d : DescRec) → FitsDesc d → d.object ≢ 0 → d.object ≢ 1 → d.index < 2
-by_kind d (inl closed) opened other = absurd (opened closed.object)
-by_kind d (inr (inl file)) opened other = absurd (other file.object)
-by_kind d (inr (inr terminal)) opened other = omega (arith, terminal.index)
-
-if_open_terminal : (held : Option DescRec) (d : DescRec) → IfSome held (λ d. d.object ≢ 1) → FitsDesc d → if_open held ≡ Some d → d.index < 2
-if_open_terminal None d others fits is = cc
-if_open_terminal (Some e) d others fits is = elim (eqb_tells e.object 0) [
-  | inl (closed, same) ↦ let none : None ≡ Some d = rw closed at is in cc
-  | inr (isnt, other) ↦
-      let same : e ≡ d = let held : Some e ≡ Some d = rw isnt at is in cc in
-      by_kind d fits (subst (λ (x : DescRec). x.object ≢ 0) same other) (subst (λ (x : DescRec). x.object ≢ 1) same others)
-]
-
-by_word : (r : Records) (word : Option ℕ) (d : DescRec) → AreOnTerminals r → FitsDesc d → named_by r.descs word ≡ Some d → d.index < 2
-by_word r None d others fits is = cc
-by_word r (Some word) d others fits is = elim (eqb_tells word 0) [
-  | inl (none, same) ↦ let none : None ≡ Some d = rw none at is in cc
-  | inr (some, other) ↦ if_open_terminal (r.descs (word - 1)) d (others.each (word - 1)) fits (rw some at is)
-]
-
-pub on_terminal : (r : Records) (words : List ℕ) (descriptor : ℕ) (d : DescRec) → AreOnTerminals r → FitsDesc d → named r words descriptor ≡ Some d → d.index < 2
-unfolding named
-on_terminal r words descriptor d others fits is = by_word r (slice_get words descriptor) d others fits is
+-- a description that is open and on no file is on a terminal
+pub terminal_of : (d : DescRec) → FitsDesc d → d.object ≢ 0 → d.object ≢ 1 → d.index < 2
+terminal_of d (inl closed) opened other = absurd (opened closed.object)
+terminal_of d (inr (inl file)) opened other = absurd (other file.object)
+terminal_of d (inr (inr terminal)) opened other = omega (arith, terminal.index)
 
 -- a description that is open to write is open
 open_to_write : (d : DescRec) → FitsDesc d → IsOpenTo 2 d → d.object ≢ 0
@@ -80,10 +60,17 @@ by_transfer r process values (d, is) =
     let fits = fits_there (r.descs (slice_index process.descs (register process.regs 10) - 1)) d (values.descs (slice_index process.descs (register process.regs 10) - 1)) is.there in
     record { description = d; fits = fits; transfer = is; is_named = transfer_names r process d is fits }
 
-pub in_write : (r : Records) (slot : ℕ) (process : ProcRec) → AreValues r → r.procs slot ≡ Some process → IsInWrite r (r.procs slot) → InWrite r process
-in_write r slot process values there inside =
-    let is = subst (IsInWrite r) there inside in
-    by_transfer r process values is.2
+transfer_of : (r : Records) (process : ProcRec) → IsInCall r process → process.call ≡ 2 → (d : DescRec) × IsTransfer r process 2 d
+transfer_of r process (inl (is, transfer)) call = transfer
+transfer_of r process (inr (inl reads)) call = absurd (omega (arith, call, reads.0))
+transfer_of r process (inr (inr waits)) call = absurd (omega (arith, call, waits.0))
+
+pub in_write : (r : Records) (process : ProcRec) → AreValues r → IsInCall r process → process.call ≡ 2 → InWrite r process
+in_write r process values inside call = by_transfer r process values (transfer_of r process inside call)
+
+-- the process of a slot is in its call
+pub call_in : (r : Records) (slot : ℕ) (process : ProcRec) → r.procs slot ≡ Some process → IsInside r (r.procs slot) → IsInCall r process
+call_in r slot process there inside = (subst (IsInside r) there inside).1
 
 -- what is found in its descriptor is that description
 pub found : (r : Records) (slot fd : ℕ) (process : ProcRec) (result : Option DescRec) → r.procs slot ≡ Some process → fd ≡ register process.regs 10

@@ -23,27 +23,13 @@ use Rattle.process_table.proofs.Regions.{SameRegions, pages_same}
 use Rattle.process_table.specs.Meaning.{IsOf}
 use Rattle.process_table.proofs.EndedUnix.{ended_unix}
 use Rattle.process_table.proofs.Endings.{ended_records}
+use Rattle.process_table.proofs.Saving.{set_itself}
 use Rattle.process_table.proofs.Seats.{pid_range}
-use Rattle.syscalls.specs.Planned.{Planned, PlanOnce, PlanWrite, answered_process, argument_of, caller_with, is_written, if_open, items_of, named, named_by, planned_answer, planned_call, planned_further, planned_number, planned_piece, planned_tty, planned_write, planned_write_on, staying_process, stopped_answer, written_process, yielded_process}
+use Rattle.syscalls.specs.Planned.{Planned, PlanOnce, PlanWrite, answered_process, argument_of, caller_with, is_written, if_open, items_of, named, named_by, planned_answer, planned_call, planned_further, planned_nothing, planned_number, planned_on, planned_piece, planned_tty, planned_write, planned_write_on, staying_process, stopped_answer, written_process, yielded_process}
 use Rattle.syscalls.specs.Done.{AreWritten, IsDone}
-use Rattle.syscalls.specs.Serving.{AreOnTerminals}
 use Rattle.syscalls.proofs.Becoming.{IsAfter, bank_by, becoming, becomes, caller_decodes}
-use Rattle.syscalls.proofs.Naming.{InWrite}
 use Rattle.syscalls.proofs.Written.{terminals_then}
 use Rattle.syscalls.proofs.Described.{described, described_as, description_is}
-
--- a description that a descriptor names is none of a file
-open_is : (held : Option DescRec) → IfSome held (λ d. d.object ≢ 1) → IfSome (if_open held) (λ d. d.object ≢ 1)
-open_is None other = tt
-open_is (Some d) other = elim (cases_Bool (d.object == 0)) [ inl closed ↦ rw closed tt | inr isnt ↦ rw isnt other ]
-
-word_is : (r : Records) (word : Option ℕ) → AreOnTerminals r → IfSome (named_by r.descs word) (λ d. d.object ≢ 1)
-word_is r None others = tt
-word_is r (Some word) others = elim (cases_Bool (word == 0)) [ inl none ↦ rw none tt | inr some ↦ rw some (open_is (r.descs (word - 1)) (others.each (word - 1))) ]
-
-named_is : (r : Records) (descriptors : List ℕ) (fd : ℕ) → AreOnTerminals r → IfSome (named r descriptors fd) (λ d. d.object ≢ 1)
-unfolding named
-named_is r descriptors fd others = word_is r (slice_get descriptors fd) others
 
 module _ (r : Records) (head : HeadRec) (slot : ℕ) (process : ProcRec) (trap : ℕ) (words : WordMap) (tapes : ℕ → List ℕ) (context : Context) (steps traps : ℕ)
     (sound : AreSound r) (is_head : r.head ≡ Some head) (is : IsIn r slot process) (of : IsOf context process.pid) where
@@ -135,6 +121,30 @@ module _ (r : Records) (head : HeadRec) (slot : ℕ) (process : ProcRec) (trap :
       → Ends done done_tapes (yield_entry state process.pid caller)
   served_yield done done_tapes served = served_once (yielded_process saved) done done_tapes yield_after served ∙ yield_is state
 
+  -- the caller is there
+  caller_there : processes_of r words context process.pid ≡ Some caller
+  caller_there = caller_decodes r words context slot process sound is of
+
+  -- a process that is what it was
+  same_regions : SameRegions saved process
+  same_regions = record { live = is.live; lives = is.live; code = refl; values = refl; brk = refl }
+
+  same_after : IsAfter process saved
+  same_after = record { pid = refl; parent = refl; status = refl; descs = refl; regions = same_regions }
+
+  same_is : process_of r words slot saved ≡ caller
+  unfolding process_of
+  same_is = λ i. record (process_of r words slot saved) { pages = pages_same r words slot saved process same_regions i }
+
+  nothing_is : with_process state process.pid caller ≡ state
+  unfolding unix_of trapped
+  nothing_is = ap (λ (ps : ℕ → Option Process). record state { processes = ps }) (set_itself (processes_of r words context) process.pid caller caller_there)
+
+  pub served_nothing : (done : Records) (done_tapes : ℕ → List ℕ) → IsDone r words tapes slot process (planned_nothing (caller_with slot trap head saved)) done done_tapes
+      → Ends done done_tapes state
+  served_nothing done done_tapes served =
+      served_once saved done done_tapes same_after served ∙ (ap (with_process state process.pid) same_is ∙ nothing_is)
+
   -- a piece of a write: what is left of it is answered, or the process stays
   written_after : (count done : ℕ) → IsAfter process (written_process saved count done)
   written_after count done = elim (cases_Bool (done == count)) [
@@ -175,36 +185,39 @@ module _ (r : Records) (head : HeadRec) (slot : ℕ) (process : ProcRec) (trap :
       let len = tty_piece count done in
       tty_by (is_readable (pages_of r words slot process) from len) tty from count len (done + len) (stopped_answer done 14) now now_tapes served
 
-  -- what is written on, where it is on a terminal
-  on_tty : (d : DescRec) → d.object ≢ 1 → object_of d ≡ OnTty d.index
-  on_tty d other = rw (ne_eqb d.object 1 other) refl
-
-  served_on : (d : DescRec) (done : ℕ) (now : Records) (now_tapes : ℕ → List ℕ) → d.object ≢ 1
-      → IsDone r words tapes slot process (planned_tty (pages_of r words slot process) (caller_with slot trap head saved) d.index done) now now_tapes
+  -- a piece of a write, by what it is on
+  served_on : (d : DescRec) (done : ℕ) (now : Records) (now_tapes : ℕ → List ℕ)
+      → IsDone r words tapes slot process (planned_on (pages_of r words slot process) (caller_with slot trap head saved) d done) now now_tapes
       → Ends now now_tapes (write_on state process.pid caller done (described_as d).object)
-  served_on d done now now_tapes other served = served_tty d.index done now now_tapes served ∙ sym (ap (write_on state process.pid caller done) (on_tty d other))
+  served_on d done now now_tapes served = elim (cases_Bool (d.object == 1)) [
+    | inl file ↦ rw file (served_nothing now now_tapes (rw file at served))
+    | inr terminal ↦ rw terminal (served_tty d.index done now now_tapes (rw terminal at served))
+  ]
+
+  pub served_held : (held : Option DescRec) (now : Records) (now_tapes : ℕ → List ℕ)
+      → IsDone r words tapes slot process (planned_further (pages_of r words slot process) (caller_with slot trap head saved) held) now now_tapes
+      → Ends now now_tapes (piece_on state process.pid caller process.done (described held))
+  served_held None now now_tapes served = served_nothing now now_tapes served
+  served_held (Some d) now now_tapes served = served_on d process.done now now_tapes served
 
   -- write
-  write_by : (held : Option DescRec) (now : Records) (now_tapes : ℕ → List ℕ) → IfSome held (λ d. d.object ≢ 1)
+  write_by : (held : Option DescRec) (now : Records) (now_tapes : ℕ → List ℕ)
       → IsDone r words tapes slot process (planned_write_on (pages_of r words slot process) (caller_with slot trap head saved) held) now now_tapes
       → Ends now now_tapes (write_through state process.pid caller (described held))
   unfolding planned_write_on
-  write_by None now now_tapes other served = served_answer (minus 9) now now_tapes served
-  write_by (Some d) now now_tapes other served = elim (cases_Bool (is_written d)) [
+  write_by None now now_tapes served = served_answer (minus 9) now now_tapes served
+  write_by (Some d) now now_tapes served = elim (cases_Bool (is_written d)) [
     | inl writes ↦ elim (cases_Bool (nat_lt 0x7fffffff (argument_of saved 2))) [
       | inl many ↦ rw (writes, many) (served_answer (minus 22) now now_tapes (rw (writes, many) at served))
       | inr few ↦ elim (cases_Bool (argument_of saved 2 == 0)) [
         | inl none ↦ rw (writes, few, none) (served_answer 0 now now_tapes (rw (writes, few, none) at served))
-        | inr some ↦ rw (writes, few, some) (served_on d 0 now now_tapes other (rw (writes, few, some) at served))
+        | inr some ↦ rw (writes, few, some) (served_on d 0 now now_tapes (rw (writes, few, some) at served))
       ]
     ]
     | inr reads ↦ rw reads (served_answer (minus 9) now now_tapes (rw reads at served))
   ]
 
   -- what a descriptor of the caller names
-  caller_there : processes_of r words context process.pid ≡ Some caller
-  caller_there = caller_decodes r words context slot process sound is of
-
   names : (fd : ℕ) → description_of state caller fd ≡ described (named r process.descs fd)
   unfolding description_of trapped unix_of process_of
   names fd =
@@ -222,15 +235,15 @@ module _ (r : Records) (head : HeadRec) (slot : ℕ) (process : ProcRec) (trap :
       ∙ (ap (λ (ts : ℕ → List ℕ). unix_of (ended_records r head slot process status trap) words ts InKernel (steps + 1) (traps + 1)) served.1
       ∙ ended_unix r head slot process status trap words tapes context steps traps caller sound is_head is (inl small) of caller_there)
 
-  pub served_number : (number : ℕ) (now : Records) (now_tapes : ℕ → List ℕ) → AreOnTerminals r
+  pub served_number : (number : ℕ) (now : Records) (now_tapes : ℕ → List ℕ)
       → IsDone r words tapes slot process (planned_number r (pages_of r words slot process) (caller_with slot trap head saved) number) now now_tapes
       → Ends now now_tapes (called state process.pid caller number)
   unfolding planned_number planned_write called write_entry getpid_entry
-  served_number number now now_tapes others served = elim (cases_Bool (number == 1)) [
+  served_number number now now_tapes served = elim (cases_Bool (number == 1)) [
     | inl exits ↦ rw exits (served_exit now now_tapes (rw exits at served))
     | inr no_exit ↦ elim (cases_Bool (number == 2)) [
       | inl writes ↦ rw (no_exit, writes)
-          (write_by (named r process.descs (argument_of saved 0)) now now_tapes (named_is r process.descs (argument_of saved 0) others) (rw (no_exit, writes) at served)
+          (write_by (named r process.descs (argument_of saved 0)) now now_tapes (rw (no_exit, writes) at served)
           ∙ sym (ap (write_through state process.pid caller) (names (argument_of saved 0))))
       | inr no_write ↦ elim (cases_Bool (number == 7)) [
         | inl asks ↦ rw (no_exit, no_write, asks) (served_answer process.pid now now_tapes (rw (no_exit, no_write, asks) at served))
@@ -243,13 +256,13 @@ module _ (r : Records) (head : HeadRec) (slot : ℕ) (process : ProcRec) (trap :
   ]
 
   -- the call that it makes
-  pub served_call : (now : Records) (now_tapes : ℕ → List ℕ) → AreOnTerminals r
+  pub served_call : (now : Records) (now_tapes : ℕ → List ℕ)
       → IsDone r words tapes slot process (planned_call r words slot trap head process (bank_by context process)) now now_tapes
       → Ends now now_tapes (entered (unix_of r words tapes context steps traps) process.pid caller)
   unfolding planned_call entered
-  served_call now now_tapes others served = served_number (register (bank_by context process).regs 17) now now_tapes others served
+  served_call now now_tapes served = served_number (register (bank_by context process).regs 17) now now_tapes served
 
--- a further piece of the write that a process is in
+-- a further piece of the call that a process is in
 module _ (r : Records) (head : HeadRec) (slot : ℕ) (process : ProcRec) (trap : ℕ) (words : WordMap) (tapes : ℕ → List ℕ) (steps traps : ℕ)
     (sound : AreSound r) (is_head : r.head ≡ Some head) (is : IsIn r slot process) where
   abbrev in_kernel : Process
@@ -258,28 +271,26 @@ module _ (r : Records) (head : HeadRec) (slot : ℕ) (process : ProcRec) (trap :
   abbrev trapping : Unix
   trapping = trapped (unix_of r words tapes InKernel steps traps) process.pid
 
-  further : (now : Records) (now_tapes : ℕ → List ℕ) → AreOnTerminals r → (in_it : InWrite r process)
-      → IsDone r words tapes slot process (planned_piece r words slot trap head process) now now_tapes
-      → unix_of now words now_tapes InKernel (steps + 1) (traps + 1)
-      ≡ piece_on trapping process.pid in_kernel process.done (description_of trapping in_kernel (argument in_kernel 0))
-  unfolding planned_piece
-  further now now_tapes others in_it served =
-      let d = in_it.description in
-      let other : d.object ≢ 1 = subst (λ (held : Option DescRec). IfSome held (λ d. d.object ≢ 1)) in_it.is_named (named_is r process.descs (argument_of process 0) others) in
-      let plan : IsDone r words tapes slot process (planned_tty (pages_of r words slot process) (caller_with slot trap head process) d.index process.done) now now_tapes =
-      subst (λ (held : Option DescRec). IsDone r words tapes slot process (planned_further (pages_of r words slot process) (caller_with slot trap head process) held) now now_tapes) in_it.is_named served in
-      let description : description_of trapping in_kernel (argument_of process 0) ≡ Some (described_as d) =
-      names r head slot process trap words tapes InKernel steps traps sound is_head is tt (argument_of process 0) ∙ ap described in_it.is_named in
-      served_on r head slot process trap words tapes InKernel steps traps sound is_head is tt d process.done now now_tapes other plan
-      ∙ sym (ap (piece_on trapping process.pid in_kernel process.done) description)
+  further : (now : Records) (now_tapes : ℕ → List ℕ) → IsDone r words tapes slot process (planned_piece r words slot trap head process) now now_tapes
+      → unix_of now words now_tapes InKernel (steps + 1) (traps + 1) ≡ continued trapping process.pid in_kernel process.call process.done
+  unfolding planned_piece continued
+  further now now_tapes served = elim (cases_Bool (process.call == 2)) [
+    | inl writes ↦
+        let held = named r process.descs (argument_of process 0) in
+        let description : description_of trapping in_kernel (argument_of process 0) ≡ described held =
+        names r head slot process trap words tapes InKernel steps traps sound is_head is tt (argument_of process 0) in
+        rw writes (served_held r head slot process trap words tapes InKernel steps traps sound is_head is tt held now now_tapes (rw writes at served)
+        ∙ sym (ap (piece_on trapping process.pid in_kernel process.done) description))
+    | inr other ↦ rw other (served_nothing r head slot process trap words tapes InKernel steps traps sound is_head is tt now now_tapes (rw other at served))
+  ]
 
   call_is : process.state ≡ 2 → in_kernel.call ≡ In process.call process.done
   unfolding process_of
   call_is state = rw state refl
 
-  pub served_further : (now : Records) (now_tapes : ℕ → List ℕ) → AreOnTerminals r → InWrite r process → process.state ≡ 2
+  pub served_further : (now : Records) (now_tapes : ℕ → List ℕ) → process.state ≡ 2
       → IsDone r words tapes slot process (planned_piece r words slot trap head process) now now_tapes
       → unix_of now words now_tapes InKernel (steps + 1) (traps + 1) ≡ piece_of (unix_of r words tapes InKernel steps traps) process.pid in_kernel
-  unfolding piece_of continued
-  served_further now now_tapes others in_it state served =
-      further now now_tapes others in_it served ∙ sym (ap (piece_by (unix_of r words tapes InKernel steps traps) process.pid in_kernel) (call_is state))
+  unfolding piece_of
+  served_further now now_tapes state served =
+      further now now_tapes served ∙ sym (ap (piece_by (unix_of r words tapes InKernel steps traps) process.pid in_kernel) (call_is state))

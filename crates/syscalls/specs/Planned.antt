@@ -21,6 +21,11 @@ pub data Planned : Type 0 where
   PlanOnce : (items : List PatchItem) → Planned
   PlanWrite : (tty from len : ℕ) (items : List PatchItem) → Planned
 
+-- the records that are set
+abbrev pub items_in : Planned → List PatchItem
+items_in (PlanOnce items) = items
+items_in (PlanWrite tty from len items) = items
+
 -- the argument registers of a process
 abbrev pub argument_of : ProcRec → (index : ℕ) → ℕ
 argument_of process index = register process.regs (10 + index)
@@ -49,6 +54,10 @@ items_of c process = head_item c.head c.trap process.pid ∷ process_item c.slot
 abbrev pub planned_answer : Caller → (answer : ℕ) → Planned
 planned_answer c answer = PlanOnce (items_of c (answered_process c.process answer))
 
+-- the trap is served, and the process is what it was: what it asks for is not built
+abbrev pub planned_nothing : Caller → Planned
+planned_nothing c = PlanOnce (items_of c c.process)
+
 -- a write of count bytes after a piece: it answers with its last one, and else stays
 abbrev pub written_process : ProcRec → (count done : ℕ) → ProcRec
 written_process process count done = if done == count then answered_process process count else staying_process process done
@@ -66,6 +75,11 @@ planned_tty pages c tty done =
     if is_readable pages (address + done) piece
     then PlanWrite tty (address + done) piece (items_of c (written_process c.process count (done + piece)))
     else planned_answer c (stopped_answer done 14)
+
+-- one piece of a write on what the description is open on: a terminal; on files it is not built
+abbrev pub planned_on : Pages → Caller → DescRec → (done : ℕ) → Planned
+planned_on pages c description done =
+    if description.object == 1 then planned_nothing c else planned_tty pages c description.index done
 
 -- the open description that a descriptor names
 abbrev pub if_open : Option DescRec → Option DescRec
@@ -90,7 +104,7 @@ planned_write_on pages c (Some description) =
     if not (is_written description) then planned_answer c (minus 9) else
     if nat_lt 0x7fffffff (argument_of c.process 2) then planned_answer c (minus 22) else
     if argument_of c.process 2 == 0 then planned_answer c 0 else
-    planned_tty pages c description.index 0
+    planned_on pages c description 0
 
 unfoldable pub planned_write : Records → Pages → Caller → Planned
 planned_write r pages c = planned_write_on pages c (named r c.process.descs (argument_of c.process 0))
@@ -120,11 +134,14 @@ unfoldable pub planned_call : Records → WordMap → (slot trap : ℕ) → Head
 planned_call r words slot trap head process bank =
     planned_number r (pages_of r words slot process) (caller_with slot trap head (saved_process process bank)) (register bank.regs 17)
 
--- a further piece of the write that the process in a slot is in
+-- a further piece of the call that the process in a slot is in: of a write; the others are not built
 abbrev pub planned_further : Pages → Caller → Option DescRec → Planned
-planned_further pages c (Some description) = planned_tty pages c description.index c.process.done
-planned_further pages c None = PlanOnce []
+planned_further pages c (Some description) = planned_on pages c description c.process.done
+planned_further pages c None = planned_nothing c
+
+abbrev pub planned_of_call : Records → Pages → Caller → Planned
+planned_of_call r pages c =
+    if c.process.call == 2 then planned_further pages c (named r c.process.descs (argument_of c.process 0)) else planned_nothing c
 
 unfoldable pub planned_piece : Records → WordMap → (slot trap : ℕ) → HeadRec → ProcRec → Planned
-planned_piece r words slot trap head process =
-    planned_further (pages_of r words slot process) (caller_with slot trap head process) (named r process.descs (argument_of process 0))
+planned_piece r words slot trap head process = planned_of_call r (pages_of r words slot process) (caller_with slot trap head process)

@@ -1,9 +1,8 @@
 -- The service that a call asks for, and when it may be asked.
-use Rattle.std.specs.Prelude.{◌≡◌, ◌≢◌, ℕ, ◌<◌, ◌≤◌, true, List, Option, Some, None, IfSome}
+use Rattle.std.specs.Prelude.{◌≡◌, ℕ, ◌<◌, ◌≤◌, true, List, Option, Some, None, IfSome}
 use Rattle.ow_base.specs.Sv32.{WordMap}
 use Rattle.ow_base.specs.Pages.{is_readable}
 use Rattle.ow_base.specs.declared.machine.Bank.{Bank}
-use Rattle.record_layouts.specs.declared.desc.DescRec.{DescRec}
 use Rattle.record_layouts.specs.declared.proc.ProcRec.{ProcRec}
 use Rattle.record_layouts.specs.declared.patch.PatchItem.{PatchItem}
 use Rattle.record_layouts.specs.Held.{Records, AreComplete}
@@ -11,7 +10,7 @@ use Rattle.record_layouts.specs.Head.{FitsHead}
 use Rattle.record_layouts.specs.Proc.{FitsProc}
 use Rattle.record_layouts.specs.Pages.{is_live, is_mapped, pages_of}
 use Rattle.record_layouts.specs.Patch.{IsPatch}
-use Rattle.record_layouts.specs.Sound.{IsTransfer}
+use Rattle.record_layouts.specs.Sound.{IsInCall}
 use Rattle.process_table.specs.Patches.{bank_of, saved_process}
 use Rattle.syscalls.specs.declared.caller.Caller.{Caller}
 use Rattle.syscalls.specs.declared.service.Service.{Service}
@@ -51,15 +50,10 @@ abbrev pub IsDoable : Records → WordMap → (slot : ℕ) → Service → Type 
 IsDoable r words slot (service.Once patch) = IsPatch patch.items.items
 IsDoable r words slot (service.TtyWrite tty from len patch) = IsPatch patch.items.items × IsWritable r words slot tty from len
 
--- no description is on a file, as there are no files yet
-pub record AreOnTerminals (r : Records) : Type 0 where
-  pub each : (i : ℕ) → IfSome (r.descs i) (λ description. description.object ≢ 1)
-
--- a call in a slot can be served: every record decodes, no description is on a file, and each page has a frame
+-- a call in a slot can be served: every record decodes, and each page has a frame
 pub record CanCall (r : Records) (slot : ℕ) : Type 0 where
   pub within : slot < 16
   pub complete : AreComplete r
-  pub on_terminals : AreOnTerminals r
   pub mapped : IfSome (r.procs slot) (λ process. is_mapped r slot process ≡ true)
 
 -- the process is live and outside a call
@@ -67,10 +61,10 @@ abbrev pub IsOutside : Option ProcRec → Type 0
 IsOutside (Some process) = process.state ≡ 1
 IsOutside None = ⊥
 
--- the process is live and in a write
-abbrev pub IsInWrite : Records → Option ProcRec → Type 0
-IsInWrite r (Some process) = (process.state ≡ 2) × (process.call ≡ 2) × ((description : DescRec) × IsTransfer r process 2 description)
-IsInWrite r None = ⊥
+-- the process is live and in a call
+abbrev pub IsInside : Records → Option ProcRec → Type 0
+IsInside r (Some process) = (process.state ≡ 2) × IsInCall r process
+IsInside r None = ⊥
 
 -- the record is this one but for registers and pc
 abbrev pub IsWithBank : ProcRec → Option ProcRec → Type 0

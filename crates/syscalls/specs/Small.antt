@@ -14,7 +14,7 @@ use Rattle.record_layouts.specs.Proc.{FitsProc, FitsLive}
 use Rattle.record_layouts.specs.Spelling.{AreZero}
 use Rattle.record_layouts.specs.Pages.{entry_for, frame_of, have_frames, is_mapped, region_of}
 use Rattle.process_table.specs.Patches.{blank_bank}
-use Rattle.syscalls.specs.Serving.{AreOnTerminals, CanCall}
+use Rattle.syscalls.specs.Serving.{CanCall}
 
 -- outside a call, or in a write of which so many bytes are done
 abbrev pub small_process : (inside : Bool) → (done : ℕ) → (regs : List ℕ) → ProcRec
@@ -160,12 +160,6 @@ small_complete inside reads_only done regs = record {
   exits = λ _ _ _. refl;
 }
 
-on_terminals : (reads_only : Bool) (i : ℕ) → (small_description reads_only i).object ≢ 1
-on_terminals reads_only i = elim (cases_Bool (i == 0)) [
-  | inl first ↦ rw first (λ is. absurd (omega (arith, is)))
-  | inr other ↦ rw other (λ is. absurd (omega (arith, is)))
-]
-
 mapped : (inside reads_only : Bool) (done : ℕ) (regs : List ℕ) → is_mapped (small_records inside reads_only done regs) 3 (small_process inside done regs) ≡ true
 unfolding is_mapped have_frames frame_of region_of entry_for
 mapped true reads_only done regs = refl
@@ -176,6 +170,5 @@ pub small_can_call : (inside reads_only : Bool) (done : ℕ) (regs : List ℕ) �
 small_can_call inside reads_only done regs = record {
   within = omega arith;
   complete = small_complete inside reads_only done regs;
-  on_terminals = record { each = on_terminals reads_only };
   mapped = mapped inside reads_only done regs;
 }

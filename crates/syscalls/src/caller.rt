@@ -59,6 +59,15 @@ impl Caller {
         patch
     }
 
+    // The trap is served, and the process is what it was.
+    pub(crate) fn is_unchanged(&self) -> Patch
+        requires { IsCaller self.now }
+        ensures items { result.items.items ≡ items_of self.now self.now.process }
+        ensures patch { IsPatch result.items.items }
+    {
+        self.becomes(self.process)
+    }
+
     // The call is over and has no answer.
     pub(crate) fn goes_on(&self) -> Patch
         requires { IsCaller self.now }

@@ -1,17 +1,17 @@
-//! The calls, one after the other, and the pieces of a write.
+//! The calls, one after the other, and the pieces of those that are done piece by piece.
 
-ghost use Rattle.std.specs.Prelude.{◌≡◌, ◌≢◌, ◌+◌, ◌%◌, ◌<◌, ◌≤◌, true, false, Some, IfSome, IfNone};
+ghost use Rattle.std.specs.Prelude.{◌≡◌, ◌≢◌, ◌+◌, ◌%◌, ◌<◌, ◌≤◌, true, false, IfSome, IfNone};
 ghost use Rattle.ow_base.specs.Pages.{is_readable};
 ghost use Rattle.record_layouts.specs.Desc.{FitsDesc};
 ghost use Rattle.record_layouts.specs.Patch.{IsPatch};
 ghost use Rattle.process_table.specs.Patches.{ended_items};
 ghost use Rattle.process_table.specs.Slots.{is_live_one};
-ghost use Rattle.syscalls.specs.Planned.{argument_of, named, pages_in, planned_number, planned_tty, planned_write};
-ghost use Rattle.syscalls.specs.Serving.{CanCall, IsCallOf, IsCallerIn, IsDoable, IsInWrite, IsOutside, IsPieceOf, plan_of};
+ghost use Rattle.syscalls.specs.Planned.{argument_of, named, pages_in, planned_number, planned_on, planned_tty, planned_write};
+ghost use Rattle.syscalls.specs.Serving.{CanCall, IsCallOf, IsCallerIn, IsDoable, IsInside, IsOutside, IsPieceOf, plan_of};
 
 use crate::caller::{Caller, WRITE};
 use crate::service::Service;
-use address_space::user_bytes;
+use address_space::can_read;
 use ow_base::{Bank, Efault, Errno, Now};
 use process_table::end_process;
 use record_layouts::{DescRec, Patch, ProcRec, RecordView};
@@ -40,6 +40,11 @@ const MOST_BYTES: u32 = 0x7fff_ffff;
 
 const PIECE: u32 = 16;
 
+// What a description is open on: nothing, or a file.
+const CLOSED: u32 = 0;
+
+const FILE: u32 = 1;
+
 // What a descriptor of the live process in the slot stands for, `None` exactly where it stands for nothing that is open.
 #[tactic(auto, unfolding(crate::specs::Planned::named))]
 fn look<V: RecordView>(view: &V, slot: u32, fd: u32) -> Option<DescRec>
@@ -47,6 +52,7 @@ fn look<V: RecordView>(view: &V, slot: u32, fd: u32) -> Option<DescRec>
     requires live { is_live_one ((V.records view.now).procs slot) ≡ true }
     ensures named { IfSome ((V.records view.now).procs slot) (λ process. result ≡ named (V.records view.now) process.descs fd) }
     ensures fits { IfSome result FitsDesc }
+    ensures opened { IfSome result (λ description. description.object ≢ 0) }
 {
     let process = view.proc(slot)?;
     let word = *process.descs.get(fd as usize)?;
@@ -54,21 +60,11 @@ fn look<V: RecordView>(view: &V, slot: u32, fd: u32) -> Option<DescRec>
         return None;
     }
     let description = view.desc(word - 1)?;
-    if description.object == 0 {
+    if description.object == CLOSED {
         None
     } else {
         Some(description)
     }
-}
-
-// The terminal's description that the process in the slot has in a descriptor, as `look` gives it.
-fn target<V: RecordView>(view: &V, slot: u32, fd: u32) -> Option<DescRec>
-    requires can { CanCall (V.records view.now) slot }
-    requires live { is_live_one ((V.records view.now).procs slot) ≡ true }
-    ensures named { IfSome ((V.records view.now).procs slot) (λ process. result ≡ named (V.records view.now) process.descs fd) }
-    ensures terminal { IfSome result (λ description. description.index < 2) }
-{
-    look(view, slot, fd)
 }
 
 // The address of the next bytes of a write, so many: `None` exactly where one of them cannot be read.
@@ -85,16 +81,15 @@ fn next_bytes<V: RecordView>(view: &V, caller: &Caller, done: u32, len: u32) -> 
     let Some(from) = caller.argument(1).checked_add(done) else {
         return None;
     };
-    let mut bytes = [0; PIECE as usize];
-    match user_bytes(view, caller.slot, from, &mut bytes[..len as usize]) {
+    match can_read(view, caller.slot, from, len) {
         Ok(()) => Some(from),
         Err(Efault) => None,
     }
 }
 
-// A piece of a write, of which so many bytes are done and some are left.
+// A piece of a write on a terminal, of which so many bytes are done and some are left.
 #[tactic(auto, unfolding(crate::specs::Planned::planned_tty))]
-fn piece<V: RecordView>(view: &V, caller: &Caller, tty: u32, done: u32) -> Service
+fn tty_piece<V: RecordView>(view: &V, caller: &Caller, tty: u32, done: u32) -> Service
     requires caller { IsCallerIn (V.records view.now) caller.now }
     requires tty { tty < 2 }
     requires left { done < argument_of caller.now.process 2 }
@@ -115,6 +110,29 @@ fn piece<V: RecordView>(view: &V, caller: &Caller, tty: u32, done: u32) -> Servi
     }
 }
 
+// A piece of a write on what the description is open on. Writes on files are not built: the trap is served, and the
+// process is what it was.
+fn piece<V: RecordView>(
+    view: &V,
+    caller: &Caller,
+    description: &DescRec,
+    done: u32,
+) -> Service
+    requires caller { IsCallerIn (V.records view.now) caller.now }
+    requires fits { FitsDesc description.now }
+    requires opened { description.now.object ≢ 0 }
+    requires left { done < argument_of caller.now.process 2 }
+    ensures plan { plan_of result ≡ planned_on (pages_in (V.records view.now) (V.words view.now) caller.now.slot) caller.now description.now done }
+    ensures doable { IsDoable (V.records view.now) (V.words view.now) caller.now.slot result }
+{
+    if description.object == FILE {
+        return Service::Once {
+            patch: caller.is_unchanged(),
+        };
+    }
+    tty_piece(view, caller, description.index, done)
+}
+
 // The call write.
 #[tactic(auto, unfolding(crate::specs::Planned::planned_write, crate::specs::Planned::planned_write_on))]
 fn write<V: RecordView>(view: &V, caller: &Caller) -> Service
@@ -122,7 +140,7 @@ fn write<V: RecordView>(view: &V, caller: &Caller) -> Service
     ensures plan { plan_of result ≡ planned_write (V.records view.now) (pages_in (V.records view.now) (V.words view.now) caller.now.slot) caller.now }
     ensures doable { IsDoable (V.records view.now) (V.words view.now) caller.now.slot result }
 {
-    let Some(description) = target(view, caller.slot, caller.argument(0)) else {
+    let Some(description) = look(view, caller.slot, caller.argument(0)) else {
         return Service::Once {
             patch: caller.fails(EBADF),
         };
@@ -143,7 +161,7 @@ fn write<V: RecordView>(view: &V, caller: &Caller) -> Service
             patch: caller.answers(0),
         };
     }
-    piece(view, caller, description.index, 0)
+    piece(view, caller, &description, 0)
 }
 
 // The call exit.
@@ -179,10 +197,10 @@ fn serve<V: RecordView>(view: &V, caller: &Caller, number: u32) -> Service
 /// and its arguments are in a0, a1 and a2. The calls are exit (1), write (2), getpid (7) and yield (18); every other
 /// number answers ENOSYS. A write answers EBADF where the descriptor stands for nothing that is open to write, then
 /// EINVAL where the count is above 0x7fffffff, then 0 where it is 0; else it makes its first piece, of at most 16
-/// bytes, which answers EFAULT where a byte of it cannot be read. Errors change nothing else.
+/// bytes, which answers EFAULT where a byte of it cannot be read. Errors change nothing else. Writes on files are not
+/// built: the trap of one is served, and the process is left before its call.
 ///
-/// Every record decodes, each page of the process has a frame, and no description is on a file: files are not built, and
-/// this condition goes when they are.
+/// Every record decodes, and each page of the process has a frame.
 #[tactic(auto, unfolding(crate::specs::Planned::planned_call))]
 pub fn enter_call<V: RecordView>(view: &V, slot: u32, bank: &Bank, now: &Now) -> Service
     requires can { CanCall (V.records view.now) slot }
@@ -204,16 +222,17 @@ pub fn enter_call<V: RecordView>(view: &V, slot: u32, bank: &Bank, now: &Now) ->
     serve(view, &caller, bank.regs.get(NUMBER))
 }
 
-/// A further piece of the write that the live process in the slot is in, in the trap `now.trap`.
+/// A further piece of the call that the live process in the slot is in, in the trap `now.trap`.
 ///
-/// It takes at most 16 bytes. The call answers its count with the last piece, and the bytes done before where a byte of
-/// the piece cannot be read; else the process stays in the call.
+/// A piece of a write (2) takes at most 16 bytes. The call answers its count with the last piece, and the bytes done
+/// before where a byte of the piece cannot be read; else the process stays in the call. Pieces of other calls and of
+/// writes on files are not built: the trap of one is served, and the process is left as it is.
 ///
-/// Every record decodes, each page has a frame, and no description is on a file, as in `enter_call`.
+/// Every record decodes, and each page of the process has a frame.
 #[tactic(auto, unfolding(crate::specs::Planned::planned_piece))]
 pub fn next_piece<V: RecordView>(view: &V, slot: u32, now: &Now) -> Service
     requires can { CanCall (V.records view.now) slot }
-    requires inside { IsInWrite (V.records view.now) ((V.records view.now).procs slot) }
+    requires inside { IsInside (V.records view.now) ((V.records view.now).procs slot) }
     ensures piece { IsPieceOf (V.records view.now) (V.words view.now) slot now.now.trap result }
     ensures doable { IsDoable (V.records view.now) (V.words view.now) slot result }
 {
@@ -223,6 +242,11 @@ pub fn next_piece<V: RecordView>(view: &V, slot: u32, now: &Now) -> Service
         head: view.head().unwrap(),
         trap: now.trap,
     };
-    let description = target(view, slot, caller.argument(0)).unwrap();
-    piece(view, &caller, description.index, caller.process.done)
+    if caller.process.call != WRITE {
+        return Service::Once {
+            patch: caller.is_unchanged(),
+        };
+    }
+    let description = look(view, slot, caller.argument(0)).unwrap();
+    piece(view, &caller, &description, caller.process.done)
 }

@@ -10,44 +10,53 @@ ghost use Rattle.record_layouts.specs.Decode.{InKernel, InUser, unix_of};
 ghost use Rattle.record_layouts.specs.Held.{Records};
 ghost use Rattle.record_layouts.specs.Sound.{AreSound, IsIn};
 ghost use Rattle.record_layouts.specs.Unix.{Process};
+ghost use Rattle.process_table.specs.Meaning.{KeepDescriptors};
 ghost use Rattle.syscalls.specs.Done.{IsDone, KeepsSound};
-ghost use Rattle.syscalls.specs.Planned.{planned_call, planned_piece};
-ghost use Rattle.syscalls.specs.Serving.{AreOnTerminals, CanCall, IsInWrite};
+ghost use Rattle.syscalls.specs.Planned.{items_in, planned_call, planned_piece};
+ghost use Rattle.syscalls.specs.Serving.{CanCall, IsInside};
 
 /// Once what the call of a process in user mode asks for is done, the records and tapes stand for the state in which
 /// the call is entered.
 pub const fn calls_are_entered()
     ensures { (r : Records) (words : WordMap) (tapes : ℕ → List ℕ) (slot trap count : ℕ) (head : HeadRec) (process : ProcRec) (bank : Bank)
         (steps traps : ℕ) (p : Process) (done : Records) (done_tapes : ℕ → List ℕ)
-        → AreSound r → AreOnTerminals r → r.head ≡ Some head → IsIn r slot process
+        → AreSound r → r.head ≡ Some head → IsIn r slot process
         → (unix_of r words tapes (InUser process.pid count bank) steps traps).processes process.pid ≡ Some p
         → IsDone r words tapes slot process (planned_call r words slot trap head process bank) done done_tapes
         → unix_of done words done_tapes InKernel (steps + 1) (traps + 1) ≡ entered (unix_of r words tapes (InUser process.pid count bank) steps traps) process.pid p }
 {}
 
-/// Once what the process in a write asks for is done, the records and tapes stand for the state in which it has made a
+/// Once what the process in a call asks for is done, the records and tapes stand for the state in which it has made a
 /// further piece.
 pub const fn pieces_go_on()
     ensures { (r : Records) (words : WordMap) (tapes : ℕ → List ℕ) (slot trap : ℕ) (head : HeadRec) (process : ProcRec)
         (steps traps : ℕ) (p : Process) (done : Records) (done_tapes : ℕ → List ℕ)
-        → AreSound r → AreOnTerminals r → r.head ≡ Some head → IsIn r slot process → process.state ≡ 2 → process.call ≡ 2
+        → AreSound r → r.head ≡ Some head → IsIn r slot process → process.state ≡ 2
         → (unix_of r words tapes InKernel steps traps).processes process.pid ≡ Some p
         → IsDone r words tapes slot process (planned_piece r words slot trap head process) done done_tapes
         → unix_of done words done_tapes InKernel (steps + 1) (traps + 1) ≡ piece_of (unix_of r words tapes InKernel steps traps) process.pid p }
 {}
 
-/// Calls can be served where records are sound and no description is on a file, and a process in a write can go on.
+/// Calls can be served where records are sound, and a process in a call can make a further piece.
 pub const fn sound_records_serve()
-    ensures calls { (r : Records) (slot : ℕ) (process : ProcRec) → AreSound r → AreOnTerminals r → IsIn r slot process → CanCall r slot }
-    ensures writes { (r : Records) (slot : ℕ) (process : ProcRec) → AreSound r → IsIn r slot process → process.state ≡ 2 → process.call ≡ 2
-        → IsInWrite r (r.procs slot) }
+    ensures calls { (r : Records) (slot : ℕ) (process : ProcRec) → AreSound r → IsIn r slot process → CanCall r slot }
+    ensures pieces { (r : Records) (slot : ℕ) (process : ProcRec) → AreSound r → IsIn r slot process → process.state ≡ 2
+        → IsInside r (r.procs slot) }
 {}
 
 /// Records on which what a call asks for is done are sound again. Where bytes are written before, so must be the
 /// records that this leaves. The eight words of descriptors are those of the process's record.
 pub const fn calls_keep_sound()
     ensures calls { (r : Records) (words : WordMap) (slot trap : ℕ) (head : HeadRec) (process : ProcRec) (bank : Bank) → AreSound r → r.head ≡ Some head → IsIn r slot process
-        → length process.descs ≡ 8 → KeepsSound r (planned_call r words slot trap head process bank) }
+        → process.state ≡ 1 → length process.descs ≡ 8 → KeepsSound r (planned_call r words slot trap head process bank) }
     ensures pieces { (r : Records) (words : WordMap) (slot trap : ℕ) (head : HeadRec) (process : ProcRec) → AreSound r → r.head ≡ Some head → IsIn r slot process
-        → process.state ≡ 2 → process.call ≡ 2 → KeepsSound r (planned_piece r words slot trap head process) }
+        → process.state ≡ 2 → KeepsSound r (planned_piece r words slot trap head process) }
+{}
+
+/// Processes that are live once what a call asks for is done were live before, with the same descriptors.
+pub const fn calls_keep_descriptors()
+    ensures calls { (r : Records) (words : WordMap) (slot trap : ℕ) (head : HeadRec) (process : ProcRec) (bank : Bank) → AreSound r → IsIn r slot process
+        → KeepDescriptors r (items_in (planned_call r words slot trap head process bank)) }
+    ensures pieces { (r : Records) (words : WordMap) (slot trap : ℕ) (head : HeadRec) (process : ProcRec) → AreSound r → IsIn r slot process
+        → KeepDescriptors r (items_in (planned_piece r words slot trap head process)) }
 {}

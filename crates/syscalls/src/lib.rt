@@ -8,7 +8,9 @@ mod laws;
 mod service;
 
 pub use calls::{enter_call, next_piece};
-pub use laws::{calls_are_entered, calls_keep_sound, pieces_go_on, sound_records_serve};
+pub use laws::{
+    calls_are_entered, calls_keep_descriptors, calls_keep_sound, pieces_go_on, sound_records_serve,
+};
 pub use ow_base::{Bank, Now};
 pub use record_layouts::{Patch, RecordView};
 pub use service::Service;

@@ -14,7 +14,7 @@ ghost use Rattle.process_table.specs.Patches.{blank_bank as empty_bank};
 ghost use Rattle.intent_store.specs.Live.{held_of};
 ghost use Rattle.kernel_traps.specs.Boot.{IsBootable, IsLoadable, program_in};
 ghost use Rattle.kernel_traps.specs.BootStores.{IsBooting};
-ghost use Rattle.kernel_traps.specs.BootRecords.{booted_description, booted_exit, booted_head, booted_process, booted_signals, started_record as record_of_start, free_process, no_file as unused_file, empty_cache as empty_entry, silent_record, blank_row_record};
+ghost use Rattle.kernel_traps.specs.BootRecords.{booted_description, booted_exit, booted_head, booted_process, booted_signals, started_record as record_of_start, free_process, unused_file, empty_entry, silent_record, blank_row_record};
 ghost use Rattle.kernel_traps.specs.BootRecords.{with_booted, with_descriptions, with_empty_caches, with_exits, with_head, with_no_files, with_processes, with_blank_rows, with_signals, with_silent_terminals};
 
 use super::stores::set_record;

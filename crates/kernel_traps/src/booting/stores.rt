@@ -1,7 +1,7 @@
 //! The stores of boot, none of which is refused.
 ghost use Rattle.std.specs.Prelude.{◌≡◌, ◌+◌, ◌<◌, ◌≤◌, [], ◌∷◌, true, length};
 ghost use Rattle.phys_memory.specs.Memory.{frame_count, words_of};
-ghost use Rattle.record_layouts.specs.Held.{beside, is_direct, patched, stored};
+ghost use Rattle.record_layouts.specs.Held.{SectorsAre, beside, is_direct, patched, stored};
 ghost use Rattle.record_layouts.specs.Overlay.{area_at, may_change};
 ghost use Rattle.record_layouts.specs.Patch.{IsPatchItem};
 ghost use Rattle.record_layouts.specs.Seam.{IsSpelled};
@@ -52,6 +52,7 @@ fn store_words(plant: &mut Plant, begin: u32, words: &[u32])
 fn store_record(plant: &mut Plant, id: RecordId, rec: &AnyRec, words: &[u32])
     requires booting { IsBooting plant.old }
     requires item { IsPatchItem (record { id = id; rec = rec.now }) }
+    requires on_disk { SectorsAre plant.old.shape.sectors rec.now }
     requires spelled { IsSpelled rec.now words.now }
     ensures held { held_of plant.new ≡ patched ((record { id = id; rec = rec.now }) ∷ []) (held_of plant.old) }
     ensures booting { IsBooting plant.new }
@@ -65,6 +66,7 @@ fn store_record(plant: &mut Plant, id: RecordId, rec: &AnyRec, words: &[u32])
 pub(crate) fn set_record(plant: &mut Plant, id: RecordId, rec: &AnyRec)
     requires booting { IsBooting plant.old }
     requires item { IsPatchItem (record { id = id; rec = rec.now }) }
+    requires on_disk { SectorsAre plant.old.shape.sectors rec.now }
     ensures held { held_of plant.new ≡ patched ((record { id = id; rec = rec.now }) ∷ []) (held_of plant.old) }
     ensures booting { IsBooting plant.new }
 {

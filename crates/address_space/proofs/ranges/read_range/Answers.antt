@@ -1,14 +1,15 @@
 use Rattle.std.proofs.Common.{◌≡◌, ◌+◌, ◌-◌, ◌^◌, ◌<◌, ◌≤◌, length, sym, arith, ◌∙◌}
 use Rattle.std.proofs.lemmas.Grind.{common_steps}
-use Rattle.address_space.proofs.Reading.{all_read, read_more, unread_behind, unread_without_frame}
+use Rattle.address_space.proofs.Reading.{all_read, read_more, shut_behind, unread_without_frame}
+use Rattle.address_space.specs.declared.access.Access.TheVariants.{Read}
 use Rattle.address_space.proofs.ranges.read_range.Goals as goal
 
 pub returns-in_default-clause-answer : goal.returns-in_default-clause-answer
 returns-in_default-clause-answer g c =
     let below : c.loop-done.done < length c.args.to.now = omega arith in
     let high : 2 ^ 32 ≤ c.args.addr + c.loop-done.done = omega (arith, c.in_default.ensures) in
-    unread_behind (g.V.RecordView.records c.args.view.now) (g.V.WordSource.words c.args.view.now) c.args.slot c.args.process.now c.requires.read
-    c.args.addr c.loop-done.done _ c.requires.fits below high
+    shut_behind (g.V.RecordView.records c.args.view.now) (g.V.WordSource.words c.args.view.now) c.args.slot c.args.process.now c.requires.read
+    c.args.addr Read c.loop-done.done _ c.requires.fits below high
 
 pub returns-in_default-frame_in-clause-answer : goal.returns-in_default-frame_in-clause-answer
 returns-in_default-frame_in-clause-answer g c =

@@ -14,25 +14,18 @@ returns-then-in_user c = not_all c.args.plant.now (user_not_ended c.args.plant.n
 
 pub returns-in-User : goal.returns-in-User
 returns-in-User c =
-    let s = c.args.plant.now in
-    not_all s (work_live s s c.in-User.field-0 (choice.User c.in-User.field-0) refl c.requires.sound c.in-User.ensures)
+    not_all c.args.plant.now (work_live c.args.plant.now c.in-User.field-0 (choice.User c.in-User.field-0) c.requires.sound c.in-User.ensures)
 
 pub returns-in-Piece : goal.returns-in-Piece
 returns-in-Piece c =
-    let s = c.args.plant.now in
-    not_all s (work_live s s c.in-Piece.field-0 (choice.Piece c.in-Piece.field-0) refl c.requires.sound c.in-Piece.ensures)
+    not_all c.args.plant.now (work_live c.args.plant.now c.in-Piece.field-0 (choice.Piece c.in-Piece.field-0) c.requires.sound c.in-Piece.ensures)
 
 pub returns-in-Signal : goal.returns-in-Signal
 returns-in-Signal c =
-    let s = c.args.plant.now in
-    not_all s (work_live s s c.in-Signal.field-0 (choice.Signal c.in-Signal.field-0) refl c.requires.sound c.in-Signal.ensures)
+    not_all c.args.plant.now (work_live c.args.plant.now c.in-Signal.field-0 (choice.Signal c.in-Signal.field-0) c.requires.sound c.in-Signal.ensures)
 
 pub returns-in-Idle : goal.returns-in-Idle
-returns-in-Idle c =
-    let s = c.args.plant.now in
-    not_all s (rest_live s s refl c.requires.sound c.in-Idle.ensures)
+returns-in-Idle c = not_all c.args.plant.now (rest_live c.args.plant.now c.requires.sound c.in-Idle.ensures)
 
 pub returns-in-AllEnded : goal.returns-in-AllEnded
-returns-in-AllEnded c =
-    let s = c.args.plant.now in
-    (λ yes. (all_ended s s s refl refl c.requires.sound c.in-AllEnded.ensures).0, λ ended. refl)
+returns-in-AllEnded c = (λ yes. all_ended c.args.plant.now c.requires.sound c.in-AllEnded.ensures, λ ended. refl)

@@ -8,8 +8,8 @@ use Rattle.ow_plant.specs.State.{PlantState, left_trap}
 use Rattle.intent_store.proofs.Outcomes.{on_ok}
 use Rattle.intent_store.specs.Live.{held_of}
 use Rattle.kernel_traps.specs.Plants.{IsSound}
-use Rattle.kernel_traps.specs.Carrying.{IsCarriedOut}
-use Rattle.kernel_traps.proofs.Carried.{IsShort, carried_sound}
+use Rattle.kernel_traps.specs.Carrying.{HasRoomFor, IsCarriedOut}
+use Rattle.kernel_traps.proofs.Carried.{IsShort, carried_sound, has_room}
 use Rattle.kernel_traps.proofs.ending.end_trap.Goals as goal
 
 -- a service that can be done writes at most 16 bytes
@@ -17,13 +17,18 @@ short : (r : Records) (words : WordMap) (slot : ℕ) (s : Service) → IsDoable 
 short r words slot (service.Once patch) doable = tt
 short r words slot (service.TtyWrite tty from len patch) doable = (doable.1.terminal, doable.1.most)
 
+pub carry_out-requires-clause-room : goal.carry_out-requires-clause-room
+carry_out-requires-clause-room c =
+    subst (λ (s : PlantState). HasRoomFor s (plan_of c.args.service.now)) (sym c.new-live.ensures.plant)
+    (has_room c.args.plant.now c.requires.trap.0 (plan_of c.args.service.now) c.requires.trap.1 c.requires.trap.2 c.fits_shape.ensures.room)
+
 pub returns-clause-sound : goal.returns-clause-sound
 returns-clause-sound c =
     let done : PlantState = c.carry_out.new.live.plant.now in
     let carried : IsCarriedOut c.args.plant.now c.args.slot (plan_of c.args.service.now) (held_of done) =
     subst (λ (s : PlantState). IsCarriedOut s c.args.slot (plan_of c.args.service.now) (held_of done)) c.new-live.ensures.plant c.in_ok-carry_out.ensures.ok in
     let sound : IsSound (left_trap done) =
-    carried_sound c.args.plant.now done c.requires.trap.0 c.args.slot (plan_of c.args.service.now) c.requires.trap.1 c.requires.trap.2 c.requires.plan
+    carried_sound c.args.plant.now done c.requires.trap.0 c.args.slot (plan_of c.args.service.now) c.requires.trap.1 c.fits_shape.ensures.few_steps c.requires.trap.2 c.requires.plan
     (short _ _ _ c.args.service.now c.requires.doable) carried c.in_ok-carry_out.ensures.stays c.in_ok-carry_out.ensures.shut c.carry_out.ensures.still_stands in
     let ended : OnOk c.leave.result (c.leave.new.self ≡ left_trap done) = search rules in
     on_ok c.leave.result (c.leave.new.self ≡ left_trap done) (IsSound c.leave.new.self) (λ is. subst IsSound (sym is) sound) ended

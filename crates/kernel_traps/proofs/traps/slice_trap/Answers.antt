@@ -1,25 +1,35 @@
-use Rattle.std.proofs.Common.{rules, ◌∙◌}
+use Rattle.std.proofs.Common.{refl}
+use Rattle.ow_base.specs.declared.machine.Came.TheVariants as came
+use Rattle.ow_plant.specs.State.{entered}
 use Rattle.syscalls.specs.Serving.{plan_of}
-use Rattle.kernel_traps.proofs.Entering.{begun}
-use Rattle.kernel_traps.proofs.TrapKinds.{doable_still, ends_begun, made_ok, slice_caught, slice_ends, slice_made, trap_begun}
+use Rattle.kernel_traps.proofs.TrapKinds.{caught, doable_still, ends_begun, made_ok, slice_ends, slice_made, slice_plan, trap_begun}
 use Rattle.kernel_traps.proofs.traps.slice_trap.Goals as goal
 
 pub end_trap-requires-clause-trap : goal.end_trap-requires-clause-trap
-end_trap-requires-clause-trap c = trap_begun c.args.plant.now _ c.saving-slot.result.1 (search rules) (record { sound = c.requires.sound; left = c.requires.budget; few = c.requires.traps })
+end_trap-requires-clause-trap c =
+    trap_begun c.args.plant.now c.enter.new.self came.User c.user_pid-pid.result c.saving-slot.result.1 c.enter.ensures
+    (record { sound = c.requires.sound; left = c.requires.budget; most = c.fits_shape.ensures.few_steps; few = c.requires.traps; step = refl })
 
 pub end_trap-requires-clause-plan : goal.end_trap-requires-clause-plan
 end_trap-requires-clause-plan c =
+    let s = c.args.plant.now in
+    let t = c.enter.new.self in
+    let pid = c.user_pid-pid.result in
     let (slot, service) = c.saving-slot.result in
-    let held = slice_caught c.args.plant.now c.new-live.result.plant.now c.user_pid-pid.result slot c.bank.result.now service (c.new-live.ensures.plant ∙ c.enter.ensures)
-    c.user_pid-pid.ensures c.bank.ensures c.requires.sound c.requires.in_user c.saving-slot.ensures.slot c.saving-slot.ensures.plan in
-    ends_begun c.args.plant.now c.plant-1.given.0 (plan_of service) (search rules) (slice_ends c.args.plant.now slot service c.requires.sound held)
+    let held = caught s t came.User pid slot service (slice_plan slot) c.enter.ensures c.user_pid-pid.ensures c.requires.sound c.requires.in_user
+    c.saving-slot.ensures.slot c.saving-slot.ensures.plan in
+    ends_begun s t came.User pid (plan_of service) c.enter.ensures (slice_ends s slot service c.requires.sound held)
 
 pub returns-clause-ok : goal.returns-clause-ok
 returns-clause-ok c =
+    let s = c.args.plant.now in
+    let t = c.enter.new.self in
+    let pid = c.user_pid-pid.result in
     let (slot, service) = c.saving-slot.result in
-    let same = c.new-live.ensures.plant ∙ c.enter.ensures in
-    let held = slice_caught c.args.plant.now c.new-live.result.plant.now c.user_pid-pid.result slot c.bank.result.now service same
-    c.user_pid-pid.ensures c.bank.ensures c.requires.sound c.requires.in_user c.saving-slot.ensures.slot c.saving-slot.ensures.plan in
-    let doable = doable_still c.args.plant.now c.new-live.result.plant.now slot service same c.saving-slot.ensures.doable in
-    made_ok c.end_trap.result (begun c.args.plant.now) c.plant-1.given.0 c.end_trap.new.plant slot (plan_of service) _ (search rules) c.end_trap.ensures.ok c.end_trap.ensures.sound
-    (slice_made c.args.plant.now c.end_trap.new.plant slot service (record { sound = c.requires.sound; left = c.requires.budget; few = c.requires.traps }) c.requires.in_user held doable)
+    let held = caught s t came.User pid slot service (slice_plan slot) c.enter.ensures c.user_pid-pid.ensures c.requires.sound c.requires.in_user
+    c.saving-slot.ensures.slot c.saving-slot.ensures.plan in
+    let doable = doable_still s t came.User pid slot service c.enter.ensures c.saving-slot.ensures.doable in
+    made_ok c.end_trap.result (entered s came.User pid) t c.end_trap.new.plant slot (plan_of service) _ c.enter.ensures c.end_trap.ensures.ok c.end_trap.ensures.sound
+    (slice_made s c.end_trap.new.plant pid slot service
+    (record { sound = c.requires.sound; left = c.requires.budget; most = c.fits_shape.ensures.few_steps; few = c.requires.traps; step = refl })
+    c.requires.in_user held doable)

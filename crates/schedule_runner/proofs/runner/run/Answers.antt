@@ -20,7 +20,7 @@ pub boot-requires-clause-none : goal.boot-requires-clause-none
 boot-requires-clause-none c = record { from_one = subst (λ (points : List PanicPoint). All (λ (p : PanicPoint). 1 ≤ p.trap) points) (sym c.requires.none) (λ k point within. absurd (omega (arith, within))) }
 
 pub loop-plant-init : goal.loop-plant-init
-loop-plant-init c = comes_first c.args.load.now c.args.plant.now c.boot.new.plant c.boot.ensures.sound c.boot.ensures.same c.boot.ensures.started
+loop-plant-init c = comes_first c.args.load.now c.args.plant.now c.boot.new.plant c.requires.ready.of_shape c.fits_shape.ensures.few_steps c.boot.ensures.sound c.boot.ensures.same c.boot.ensures.started
 
 pub all_have_ended-requires : goal.all_have_ended-requires
 all_have_ended-requires c = record { sound = c.loop-plant.invariant.sound }
@@ -73,22 +73,22 @@ returns-in-Ok-AllEnded-clause-run c =
 pub loop-plant-smaller-in-Ok-Step : goal.loop-plant-smaller-in-Ok-Step
 loop-plant-smaller-in-Ok-Step c =
     let is : IsTurn c.loop-plant.plant c.serve_trap.new.plant turns.Step = subst (IsTurn c.loop-plant.plant c.serve_trap.new.plant) c.in-Ok-Step.field-0-is c.in-Ok-Step.ensures.ok in
-    comes_nearer c.args.load.now c.args.plant.now c.loop-plant.plant c.serve_trap.new.plant c.requires.ready.of_shape c.loop-plant.invariant is.0
+    comes_nearer c.args.load.now c.args.plant.now c.loop-plant.plant c.serve_trap.new.plant c.loop-plant.invariant is.0
 
 pub loop-plant-preserved-in-Ok-Step : goal.loop-plant-preserved-in-Ok-Step
 loop-plant-preserved-in-Ok-Step c =
     let is : IsTurn c.loop-plant.plant c.serve_trap.new.plant turns.Step = subst (IsTurn c.loop-plant.plant c.serve_trap.new.plant) c.in-Ok-Step.field-0-is c.in-Ok-Step.ensures.ok in
-    comes_on c.args.load.now c.args.plant.now c.loop-plant.plant c.serve_trap.new.plant c.requires.ready.of_shape c.loop-plant.invariant (some_live c.loop-plant.plant (λ ended. subst (λ (turn : Turn). IsAllEnded {E = Panicked} (Ok turn)) c.in-Ok-Step.field-0-is (c.in-Ok-Step.ensures.ended ended))) is.0 (omega (arith, is.1))
+    comes_on c.args.load.now c.args.plant.now c.loop-plant.plant c.serve_trap.new.plant c.loop-plant.invariant (some_live c.loop-plant.plant (λ ended. subst (λ (turn : Turn). IsAllEnded {E = Panicked} (Ok turn)) c.in-Ok-Step.field-0-is (c.in-Ok-Step.ensures.ended ended))) is.0 (omega (arith, is.1))
 
 pub loop-plant-smaller : goal.loop-plant-smaller
 loop-plant-smaller c =
     let is : IsTurn c.loop-plant.plant c.serve_trap.new.plant turns.Trap = subst (IsTurn c.loop-plant.plant c.serve_trap.new.plant) c.in-Ok-Trap.field-0-is c.in-Ok-Trap.ensures.ok in
-    comes_nearer c.args.load.now c.args.plant.now c.loop-plant.plant c.serve_trap.new.plant c.requires.ready.of_shape c.loop-plant.invariant is.0
+    comes_nearer c.args.load.now c.args.plant.now c.loop-plant.plant c.serve_trap.new.plant c.loop-plant.invariant is.0
 
 pub loop-plant-preserved : goal.loop-plant-preserved
 loop-plant-preserved c =
     let is : IsTurn c.loop-plant.plant c.serve_trap.new.plant turns.Trap = subst (IsTurn c.loop-plant.plant c.serve_trap.new.plant) c.in-Ok-Trap.field-0-is c.in-Ok-Trap.ensures.ok in
-    comes_on c.args.load.now c.args.plant.now c.loop-plant.plant c.serve_trap.new.plant c.requires.ready.of_shape c.loop-plant.invariant (some_live c.loop-plant.plant (λ ended. subst (λ (turn : Turn). IsAllEnded {E = Panicked} (Ok turn)) c.in-Ok-Trap.field-0-is (c.in-Ok-Trap.ensures.ended ended))) is.0 (omega (arith, is.1))
+    comes_on c.args.load.now c.args.plant.now c.loop-plant.plant c.serve_trap.new.plant c.loop-plant.invariant (some_live c.loop-plant.plant (λ ended. subst (λ (turn : Turn). IsAllEnded {E = Panicked} (Ok turn)) c.in-Ok-Trap.field-0-is (c.in-Ok-Trap.ensures.ended ended))) is.0 (omega (arith, is.1))
 
 pub unreachable-requires : goal.unreachable-requires
 unreachable-requires c =

@@ -1,7 +1,7 @@
 use Rattle.std.proofs.Common.{◌≡◌, ◌<◌, ℕ, Option, Some, sym, ◌∙◌, subst, refl}
 use Rattle.std.specs.Option.{IsSome}
 use Rattle.record_layouts.specs.declared.desc.DescRec.{DescRec}
-use Rattle.syscalls.proofs.Naming.{InWrite, found, in_write}
+use Rattle.syscalls.proofs.Naming.{InWrite, call_in, found, in_write}
 use Rattle.syscalls.proofs.calls.next_piece.Goals as goal
 
 some_is : (held : Option DescRec) (d : DescRec) → held ≡ Some d → IsSome held
@@ -11,12 +11,12 @@ pub unwrap-description-requires : goal.unwrap-description-requires
 unwrap-description-requires g c =
     let r = g.V.RecordView.records c.args.view.now in
     let there : r.procs c.args.slot ≡ Some c.unwrap.result = sym c.proc.ensures.record ∙ c.unwrap.ensures in
-    let is : InWrite r c.unwrap.result = in_write r c.args.slot c.unwrap.result (g.met.V.RecordView.values c.args.view.now) there c.requires.inside in
-    some_is c.target.result is.description (found r c.args.slot c.argument.result c.unwrap.result c.target.result there c.argument.ensures c.target.ensures.named is)
+    let is : InWrite r c.unwrap.result = in_write r c.unwrap.result (g.met.V.RecordView.values c.args.view.now) (call_in r c.args.slot c.unwrap.result there c.requires.inside) c.if-caller-ne-WRITE.false in
+    some_is c.look.result is.description (found r c.args.slot c.argument.result c.unwrap.result c.look.result there c.argument.ensures c.look.ensures.named is)
 
 pub piece-requires-clause-left : goal.piece-requires-clause-left
 piece-requires-clause-left g c =
     let r = g.V.RecordView.records c.args.view.now in
     let there : r.procs c.args.slot ≡ Some c.unwrap.result = sym c.proc.ensures.record ∙ c.unwrap.ensures in
-    let is : InWrite r c.unwrap.result = in_write r c.args.slot c.unwrap.result (g.met.V.RecordView.values c.args.view.now) there c.requires.inside in
+    let is : InWrite r c.unwrap.result = in_write r c.unwrap.result (g.met.V.RecordView.values c.args.view.now) (call_in r c.args.slot c.unwrap.result there c.requires.inside) c.if-caller-ne-WRITE.false in
     is.transfer.left

@@ -5,7 +5,7 @@ use Rattle.record_layouts.specs.declared.places.RecordId.TheVariants as id
 use Rattle.record_layouts.specs.declared.cache.CacheRec.{CacheRec}
 use Rattle.ow_plant.specs.State.{PlantState}
 use Rattle.intent_store.specs.Live.{held_of}
-use Rattle.kernel_traps.specs.BootRecords.{empty_cache}
+use Rattle.kernel_traps.specs.BootRecords.{empty_entry}
 use Rattle.kernel_traps.proofs.BootRecords.{cache_more, set_none}
 use Rattle.kernel_traps.proofs.booting.records.set_caches.Goals as goal
 
@@ -13,7 +13,7 @@ pub loop-entry-init : goal.loop-entry-init
 loop-entry-init c =
     let h = held_of c.args.plant.now in
     record {
-      held = ap (λ (f : ℕ → Option CacheRec). record h { records = record h.records { caches = f } }) (sym (set_none 0 (λ i. empty_cache) h.records.caches));
+      held = ap (λ (f : ℕ → Option CacheRec). record h { records = record h.records { caches = f } }) (sym (set_none 0 (λ i. empty_entry) h.records.caches));
       booting = c.requires.booting;
     }
 

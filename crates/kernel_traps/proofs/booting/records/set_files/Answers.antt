@@ -5,15 +5,15 @@ use Rattle.record_layouts.specs.declared.places.RecordId.TheVariants as id
 use Rattle.record_layouts.specs.declared.file.FileRec.{FileRec}
 use Rattle.ow_plant.specs.State.{PlantState}
 use Rattle.intent_store.specs.Live.{held_of}
-use Rattle.kernel_traps.specs.BootRecords.{no_file}
-use Rattle.kernel_traps.proofs.BootRecords.{file_more, set_none}
+use Rattle.kernel_traps.specs.BootRecords.{unused_file}
+use Rattle.kernel_traps.proofs.BootRecords.{file_more, none_on_disk, set_none}
 use Rattle.kernel_traps.proofs.booting.records.set_files.Goals as goal
 
 pub loop-index-init : goal.loop-index-init
 loop-index-init c =
     let h = held_of c.args.plant.now in
     record {
-      held = ap (λ (f : ℕ → Option FileRec). record h { records = record h.records { files = f } }) (sym (set_none 0 (λ i. no_file) h.records.files));
+      held = ap (λ (f : ℕ → Option FileRec). record h { records = record h.records { files = f } }) (sym (set_none 0 (λ i. unused_file) h.records.files));
       booting = c.requires.booting;
     }
 
@@ -25,3 +25,6 @@ loop-index-preserved c = record {
       ∙ file_more (held_of c.args.plant.now) c.loop-index.index c.no_file.result c.no_file.ensures.is;
   booting = c.set_record.ensures.booting;
 }
+
+pub set_record-requires-clause-on_disk : goal.set_record-requires-clause-on_disk
+set_record-requires-clause-on_disk c = none_on_disk c.loop-index.plant.shape.sectors c.no_file.result c.no_file.ensures.is

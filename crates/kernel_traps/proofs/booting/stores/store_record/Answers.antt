@@ -14,5 +14,5 @@ returns-clause-held c =
     let spells : Spells range item =
     sets_item item frame first c.args.words.now c.requires.item c.requires.spelled c.address-frame.ensures.number c.address-frame.ensures.place
     (c.records_lie_apart.ensures.changed c.args.id c.requires.item.there) in
-    record_set c.args.plant.now c.store_words.new.plant range item c.requires.booting c.store_words.ensures.booting (one_item item c.requires.item)
+    record_set c.args.plant.now c.store_words.new.plant range item c.requires.booting c.store_words.ensures.booting (one_item item c.requires.item) c.requires.on_disk
     (spells, tt) c.store_words.ensures.words c.store_words.ensures.same_beside c.store_words.ensures.same_rest

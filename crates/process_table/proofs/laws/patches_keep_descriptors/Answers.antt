@@ -1,0 +1,14 @@
+use Rattle.process_table.proofs.Descriptors.{end_keeps, on_terminals_stay, save_keeps, signal_keeps}
+use Rattle.process_table.proofs.laws.patches_keep_descriptors.Goals as goal
+
+pub returns-clause-ended : goal.returns-clause-ended
+returns-clause-ended c = end_keeps
+
+pub returns-clause-saved : goal.returns-clause-saved
+returns-clause-saved c = save_keeps
+
+pub returns-clause-signalled : goal.returns-clause-signalled
+returns-clause-signalled c = signal_keeps
+
+pub returns-clause-terminals : goal.returns-clause-terminals
+returns-clause-terminals c = on_terminals_stay

@@ -1,0 +1,136 @@
+-- The records that a call sets are those of a process that ends, or those of one that becomes another.
+use Rattle.std.proofs.Common.{◌≡◌, ◌⊎◌, ◌==◌, ℕ, ◌+◌, ◌%◌, ◌≤◌, nat_lt, List, Option, Some, None, inl, inr, refl, arith}
+use Rattle.std.proofs.lemmas.Bool.{cases_Bool}
+use Rattle.ow_base.specs.Sv32.{WordMap}
+use Rattle.ow_base.specs.Words.{minus}
+use Rattle.ow_base.specs.UserStep.{register}
+use Rattle.ow_base.specs.Pages.{Pages, is_readable}
+use Rattle.ow_base.specs.declared.machine.Bank.{Bank}
+use Rattle.record_layouts.specs.declared.desc.DescRec.{DescRec}
+use Rattle.record_layouts.specs.declared.head.HeadRec.{HeadRec}
+use Rattle.record_layouts.specs.declared.patch.PatchItem.{PatchItem}
+use Rattle.record_layouts.specs.declared.proc.ProcRec.{ProcRec}
+use Rattle.record_layouts.specs.Calls.{tty_piece}
+use Rattle.record_layouts.specs.Held.{Records}
+use Rattle.record_layouts.specs.Pages.{pages_of}
+use Rattle.record_layouts.specs.Sound.{AreSound, IsIn}
+use Rattle.process_table.specs.Meaning.{KeepDescriptors}
+use Rattle.process_table.specs.Patches.{bank_of, ended_items, saved_process}
+use Rattle.process_table.proofs.Descriptors.{end_keeps, set_keeps}
+use Rattle.syscalls.specs.Planned.{answered_process, argument_of, caller_with, is_written, items_in, items_of, named, planned_answer, planned_call, planned_further, planned_nothing, planned_number, planned_of_call, planned_on, planned_piece, planned_tty, planned_write, planned_write_on, staying_process, stopped_answer, written_process, yielded_process}
+use Rattle.syscalls.proofs.Becoming.{IsAfter}
+
+-- what a process becomes in a call that goes on or is answered; it is then in no call but a write or the one it was in
+pub record IsServedAs (process after : ProcRec) : Type 0 where
+  pub next : IsAfter process after
+  pub call : after.state ≡ 2 → (after.call ≡ 2) ⊎ ((process.state ≡ 2) × (after.call ≡ process.call))
+
+-- what holds of the records of both kinds holds of those of each plan
+module _ (P : List PatchItem → Type 0) (r : Records) (head : HeadRec) (slot trap : ℕ) (process : ProcRec) (bank : Bank) (is : IsIn r slot process) (pages : Pages)
+    (ends : (status : ℕ) → status ≤ 0xff → P (ended_items head slot (saved_process process bank) status trap))
+    (sets : (after : ProcRec) → IsServedAs process after → P (items_of (caller_with slot trap head (saved_process process bank)) after)) where
+  abbrev saved : ProcRec
+  saved = saved_process process bank
+
+  answered : (answer : ℕ) → P (items_in (planned_answer (caller_with slot trap head saved) answer))
+  answered answer = sets (answered_process saved answer) (record {
+    next = record { pid = refl; parent = refl; status = refl; descs = refl; regions = record { live = refl; lives = is.live; code = refl; values = refl; brk = refl } };
+    call = λ s. absurd (omega (arith, s));
+  })
+
+  yielded : P (items_of (caller_with slot trap head saved) (yielded_process saved))
+  yielded = sets (yielded_process saved) (record {
+    next = record { pid = refl; parent = refl; status = refl; descs = refl; regions = record { live = refl; lives = is.live; code = refl; values = refl; brk = refl } };
+    call = λ s. absurd (omega (arith, s));
+  })
+
+  stayed : (done : ℕ) → P (items_of (caller_with slot trap head saved) (staying_process saved done))
+  stayed done = sets (staying_process saved done) (record {
+    next = record { pid = refl; parent = refl; status = refl; descs = refl; regions = record { live = refl; lives = is.live; code = refl; values = refl; brk = refl } };
+    call = λ s. inl refl;
+  })
+
+  nothing : P (items_in (planned_nothing (caller_with slot trap head saved)))
+  nothing = sets saved (record {
+    next = record { pid = refl; parent = refl; status = refl; descs = refl; regions = record { live = is.live; lives = is.live; code = refl; values = refl; brk = refl } };
+    call = λ s. inr (s, refl);
+  })
+
+  written : (count done : ℕ) → P (items_of (caller_with slot trap head saved) (written_process saved count done))
+  written count done = elim (cases_Bool (done == count)) [ inl last ↦ rw last (answered count) | inr more ↦ rw more (stayed done) ]
+
+  on_tty : (tty done : ℕ) → P (items_in (planned_tty pages (caller_with slot trap head saved) tty done))
+  unfolding planned_tty
+  on_tty tty done =
+      let count = argument_of saved 2 in
+      let piece = tty_piece count done in
+      elim (cases_Bool (is_readable pages (argument_of saved 1 + done) piece)) [
+        | inl all ↦ rw all (written count (done + piece))
+        | inr some ↦ rw some (answered (stopped_answer done 14))
+      ]
+
+  on_object : (d : DescRec) (done : ℕ) → P (items_in (planned_on pages (caller_with slot trap head saved) d done))
+  on_object d done = elim (cases_Bool (d.object == 1)) [ inl file ↦ rw file nothing | inr terminal ↦ rw terminal (on_tty d.index done) ]
+
+  write_items : (held : Option DescRec) → P (items_in (planned_write_on pages (caller_with slot trap head saved) held))
+  unfolding planned_write_on
+  write_items None = answered (minus 9)
+  write_items (Some d) = elim (cases_Bool (is_written d)) [
+    | inr reads ↦ rw reads (answered (minus 9))
+    | inl writes ↦ elim (cases_Bool (nat_lt 0x7fffffff (argument_of saved 2))) [
+      | inl many ↦ rw (writes, many) (answered (minus 22))
+      | inr few ↦ elim (cases_Bool (argument_of saved 2 == 0)) [
+        | inl none ↦ rw (writes, few, none) (answered 0)
+        | inr some ↦ rw (writes, few, some) (on_object d 0)
+      ]
+    ]
+  ]
+
+  pub number_items : (number : ℕ) → P (items_in (planned_number r pages (caller_with slot trap head saved) number))
+  unfolding planned_number planned_write
+  number_items number = elim (cases_Bool (number == 1)) [
+    | inl exits ↦ rw exits (ends (argument_of saved 0 % 256) (omega arith))
+    | inr no_exit ↦ elim (cases_Bool (number == 2)) [
+      | inl writes ↦ rw (no_exit, writes) (write_items (named r process.descs (argument_of saved 0)))
+      | inr no_write ↦ elim (cases_Bool (number == 7)) [
+        | inl asks ↦ rw (no_exit, no_write, asks) (answered process.pid)
+        | inr no_pid ↦ elim (cases_Bool (number == 18)) [
+          | inl yields ↦ rw (no_exit, no_write, no_pid, yields) yielded
+          | inr none ↦ rw (no_exit, no_write, no_pid, none) (answered (minus 38))
+        ]
+      ]
+    ]
+  ]
+
+  further_items : (held : Option DescRec) → P (items_in (planned_further pages (caller_with slot trap head saved) held))
+  further_items None = nothing
+  further_items (Some d) = on_object d process.done
+
+  pub piece_items : P (items_in (planned_of_call r pages (caller_with slot trap head saved)))
+  piece_items = elim (cases_Bool (process.call == 2)) [
+    | inl writes ↦ rw writes (further_items (named r process.descs (argument_of saved 0)))
+    | inr other ↦ rw other nothing
+  ]
+
+-- so live processes keep their descriptors
+module _ (r : Records) (head : HeadRec) (slot trap : ℕ) (process : ProcRec) (bank : Bank) (sound : AreSound r) (is : IsIn r slot process) where
+  ended_keeps : (status : ℕ) → status ≤ 0xff → KeepDescriptors r (ended_items head slot (saved_process process bank) status trap)
+  unfolding ended_items
+  ended_keeps status small = end_keeps r head slot process status trap sound is
+
+  served_keeps : (after : ProcRec) → IsServedAs process after → KeepDescriptors r (items_of (caller_with slot trap head (saved_process process bank)) after)
+  served_keeps after served = set_keeps r head slot process after trap after.pid is served.next.descs
+
+pub call_keeps_descriptors : (r : Records) (words : WordMap) (slot trap : ℕ) (head : HeadRec) (process : ProcRec) (bank : Bank) → AreSound r → IsIn r slot process
+    → KeepDescriptors r (items_in (planned_call r words slot trap head process bank))
+unfolding planned_call
+call_keeps_descriptors r words slot trap head process bank sound is =
+    number_items (KeepDescriptors r) r head slot trap process bank is (pages_of r words slot process)
+    (ended_keeps r head slot trap process bank sound is) (served_keeps r head slot trap process bank sound is) (register bank.regs 17)
+
+pub piece_keeps_descriptors : (r : Records) (words : WordMap) (slot trap : ℕ) (head : HeadRec) (process : ProcRec) → AreSound r → IsIn r slot process
+    → KeepDescriptors r (items_in (planned_piece r words slot trap head process))
+unfolding planned_piece
+piece_keeps_descriptors r words slot trap head process sound is =
+    piece_items (KeepDescriptors r) r head slot trap process (bank_of process) is (pages_of r words slot process)
+    (ended_keeps r head slot trap process (bank_of process) sound is) (served_keeps r head slot trap process (bank_of process) sound is)
