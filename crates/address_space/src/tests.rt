@@ -24,31 +24,46 @@ struct Memory {
     words: Vec<u32>,
 }
 
+// The pages to which the user frames belong.
+const PAGES: [u32; 16] = [
+    27, 26, 25, 24, 23, 22, 21, 20, 19, 18, 17, 16, 0x7_fffc, 0x7_fffd, 0x7_fffe, 0x7_ffff,
+];
+
 impl Memory {
-    // User frames 11 down to 0 belong to pages 16 to 27, as code up to the first page of values, and 12 to 15 to the four
-    // pages of stack. Counted through all of them, word `n` holds `4 * n` in its two low bytes and in its two high ones.
+    // Pages are of code up to the first of values. Counted through all user frames, word `n` holds `4 * n` in its two low
+    // bytes and again in its two high ones.
     fn new(alloc: Global, brk: u32, first_of_values: u32) -> Result<Memory, AllocError> {
-        let mut words = vec![in alloc; 0u32; 147456]?;
+        let mut memory = Memory {
+            words: vec![in alloc; 0u32; 147456]?,
+        };
         let mut process = [0; 128];
         process[..9].copy_from_slice(&[0x5052_4f43, 1, 7, 0, 0, 0, 2, 1, brk]);
         put_seal(&mut process);
-        words[1280..1408].copy_from_slice(&process);
-        words[22528] = 0x6001;
-        words[22528 + 511] = 0x6401;
-        for frame in 0..16 {
-            let (page, place) = if frame < 12 {
-                (27 - frame, 23552 + 27 - frame)
-            } else {
-                (0x7_fff0 + frame, 24576 + 1008 + frame)
-            };
+        memory.put(1280, &process);
+        memory.put(22528, &[0x6001]);
+        memory.put(22528 + 511, &[0x6401]);
+        for (number, page) in PAGES.into_iter().enumerate() {
             let flags = if page < first_of_values { 0x5b } else { 0xd7 };
-            words[place as usize] = 1024 * (129 + frame) + flags;
-            words[(10240 + frame) as usize] = 0x30_0000 + page;
+            let frame = 129u32.wrapping_add(number as u32);
+            let table = if page < 1024 { 23552 } else { 24576 };
+            memory.put(
+                table + (page % 1024) as usize,
+                &[frame.wrapping_mul(1024).wrapping_add(flags)],
+            );
+            memory.put(number.wrapping_add(10240), &[page.wrapping_add(0x30_0000)]);
         }
-        for word in 0..16384 {
-            words[131072 + word as usize] = word * 4 * 0x1_0001;
+        for word in 0..16384u32 {
+            memory.put(131072 + word as usize, &[word.wrapping_mul(0x4_0004)]);
         }
-        Ok(Memory { words })
+        Ok(memory)
+    }
+
+    fn put(&mut self, number: usize, words: &[u32]) {
+        for (place, word) in words.iter().enumerate() {
+            if let Some(changed) = self.words.get_mut(number.wrapping_add(place)) {
+                *changed = *word;
+            }
+        }
     }
 }
 

@@ -61,14 +61,15 @@ const SHAPES: [([u32; 4], u32, &[(u32, Option<Rights>)]); 5] = [
 
 #[test]
 fn regions_of_processes(rt: HostRuntime) {
-    for ([state, code_pages, data_pages, brk], count, regions) in SHAPES {
+    for shape in &SHAPES {
+        let [state, code_pages, data_pages, brk] = shape.0;
         let Some(rec) = ProcRec::from_words(&process(state, code_pages, data_pages, brk)) else {
             panic!(rt; "no record of state {state}");
         };
-        assert_eq!(rt; pages(&rec), count);
-        for (page, want) in regions {
+        assert_eq!(rt; pages(&rec), shape.1);
+        for (page, want) in shape.2 {
             let page = *page % 0x10_0000;
-            assert_eq!(rt; region(&rec, page), *want, "page {page:x} of {count}");
+            assert_eq!(rt; region(&rec, page), *want, "page {page:x}");
         }
     }
 }

@@ -120,7 +120,7 @@ MayBeLeftOfSignal old slot new =
     (signals : SigRec) × (signal : ℕ) × ((records_held old).sigs slot ≡ Some signals)
     × MayBeLeftOfKernel old slot (λ head process. PlanOnce (signal_items head slot process signals signal (risen old.traps))) new
 
--- of one that no process had: it came so
+-- of one that no process had: it came so; its pid is 0, and its plan is of the head alone, whatever the slot
 abbrev pub MayBeLeftOfIdle : PlantState → Came → PlantState → Type 0
 MayBeLeftOfIdle old came new =
     (head : HeadRec) × ((records_held old).head ≡ Some head) × MayBeLeftOfTrap (entered old came 0) 0 (PlanOnce (served_items head (risen old.traps))) new

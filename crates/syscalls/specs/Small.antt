@@ -16,13 +16,13 @@ use Rattle.record_layouts.specs.Pages.{entry_for, frame_of, have_frames, is_mapp
 use Rattle.process_table.specs.Patches.{blank_bank}
 use Rattle.syscalls.specs.Serving.{CanCall}
 
--- outside a call, or in a write of which so many bytes are done
-abbrev pub small_process : (inside : Bool) → (done : ℕ) → (regs : List ℕ) → ProcRec
-small_process inside done regs = record {
+-- outside a call, or in the one of this number, of which so many bytes are done
+abbrev pub small_process : (inside : Bool) → (call done : ℕ) → (regs : List ℕ) → ProcRec
+small_process inside call done regs = record {
   state = if inside then 2 else 1;
   pid = 9;
   parent = 0;
-  call = if inside then 2 else 0;
+  call = if inside then call else 0;
   done = if inside then done else 0;
   code_pages = 1;
   data_pages = 0;
@@ -58,11 +58,11 @@ small_table_word table word =
 abbrev pub small_owner : (frame : ℕ) → ℕ
 small_owner frame = if frame == 2 then 0x400010 else if nat_le 3 frame && nat_le frame 6 then 0x47fffc + (frame - 3) else 0
 
-abbrev pub small_records : (inside reads_only : Bool) → (done : ℕ) → (regs : List ℕ) → Records
-small_records inside reads_only done regs = record {
+abbrev pub small_records : (inside reads_only : Bool) → (call done : ℕ) → (regs : List ℕ) → Records
+small_records inside reads_only call done regs = record {
   map = record { area_base = 0; cache_base = 64; pool_base = 128; user_frames = 16; sectors = 4 };
   head = Some (record { layout = 1; served = 40; last = 0; next = 10; hand = 0 });
-  procs = λ _. Some (small_process inside done regs);
+  procs = λ _. Some (small_process inside call done regs);
   sigs = λ _. Some (record { pid = 0; pending = 0; handlers = replicate 15 0 });
   descs = λ i. Some (small_description reads_only i);
   files = λ _. Some no_file;
@@ -81,8 +81,8 @@ descs_fit zero within = omega arith
 descs_fit (suc zero) within = omega arith
 descs_fit (suc (suc k)) within = omega (arith, get_or-replicate {A = ℕ} 6 k 0 0 (omega arith))
 
-live_fits : (inside : Bool) (done : ℕ) (regs : List ℕ) → FitsLive (small_process inside done regs)
-live_fits inside done regs = record {
+live_fits : (inside : Bool) (call done : ℕ) (regs : List ℕ) → FitsLive (small_process inside call done regs)
+live_fits inside call done regs = record {
   pid = (omega arith, omega arith);
   parent = omega arith;
   code_pages = (omega arith, omega arith);
@@ -93,19 +93,19 @@ live_fits inside done regs = record {
   descs = descs_fit;
 }
 
-process_fits : (inside : Bool) (done : ℕ) (regs : List ℕ) → FitsProc (small_process inside done regs)
-process_fits true done regs = record {
+process_fits : (inside : Bool) (call done : ℕ) (regs : List ℕ) → FitsProc (small_process inside call done regs)
+process_fits true call done regs = record {
   state = omega arith;
   free = λ s. absurd (omega (arith, s));
-  live = λ s. live_fits true done regs;
+  live = λ s. live_fits true call done regs;
   no_call = λ s. absurd (omega (arith, s));
   none_done = λ s. absurd (omega (arith, s));
   ended = λ s. absurd (omega (arith, s));
 }
-process_fits false done regs = record {
+process_fits false call done regs = record {
   state = omega arith;
   free = λ s. absurd (omega (arith, s));
-  live = λ s. live_fits false done regs;
+  live = λ s. live_fits false call done regs;
   no_call = λ s. refl;
   none_done = λ s. refl;
   ended = λ s. absurd (omega (arith, s));
@@ -134,10 +134,10 @@ file_fits = record {
   past_kept = zeros 64;
 }
 
-pub small_values : (inside reads_only : Bool) (done : ℕ) (regs : List ℕ) → AreValues (small_records inside reads_only done regs)
-small_values inside reads_only done regs = record {
+pub small_values : (inside reads_only : Bool) (call done : ℕ) (regs : List ℕ) → AreValues (small_records inside reads_only call done regs)
+small_values inside reads_only call done regs = record {
   head = record { layout = refl; next_from = omega arith; next_to = omega arith; hand = omega arith };
-  procs = λ _. process_fits inside done regs;
+  procs = λ _. process_fits inside call done regs;
   sigs = λ _. record { highest = omega arith; lowest = refl };
   descs = λ i. description_fits reads_only i;
   files = λ _. file_fits;
@@ -147,8 +147,8 @@ small_values inside reads_only done regs = record {
   exits = λ _. inl (record { state = refl; value = refl });
 }
 
-small_complete : (inside reads_only : Bool) (done : ℕ) (regs : List ℕ) → AreComplete (small_records inside reads_only done regs)
-small_complete inside reads_only done regs = record {
+small_complete : (inside reads_only : Bool) (call done : ℕ) (regs : List ℕ) → AreComplete (small_records inside reads_only call done regs)
+small_complete inside reads_only call done regs = record {
   head = refl;
   procs = λ _ _. refl;
   sigs = λ _ _. refl;
@@ -160,15 +160,15 @@ small_complete inside reads_only done regs = record {
   exits = λ _ _ _. refl;
 }
 
-mapped : (inside reads_only : Bool) (done : ℕ) (regs : List ℕ) → is_mapped (small_records inside reads_only done regs) 3 (small_process inside done regs) ≡ true
+mapped : (inside reads_only : Bool) (call done : ℕ) (regs : List ℕ) → is_mapped (small_records inside reads_only call done regs) 3 (small_process inside call done regs) ≡ true
 unfolding is_mapped have_frames frame_of region_of entry_for
-mapped true reads_only done regs = refl
-mapped false reads_only done regs = refl
+mapped true reads_only call done regs = refl
+mapped false reads_only call done regs = refl
 
 -- calls of the process can be served
-pub small_can_call : (inside reads_only : Bool) (done : ℕ) (regs : List ℕ) → CanCall (small_records inside reads_only done regs) 3
-small_can_call inside reads_only done regs = record {
+pub small_can_call : (inside reads_only : Bool) (call done : ℕ) (regs : List ℕ) → CanCall (small_records inside reads_only call done regs) 3
+small_can_call inside reads_only call done regs = record {
   within = omega arith;
-  complete = small_complete inside reads_only done regs;
-  mapped = mapped inside reads_only done regs;
+  complete = small_complete inside reads_only call done regs;
+  mapped = mapped inside reads_only call done regs;
 }

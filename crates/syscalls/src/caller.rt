@@ -1,6 +1,6 @@
 //! A process in its trap, and what its record becomes there.
 
-ghost use Rattle.std.specs.Prelude.{◌≡◌, ◌<◌, ◌≤◌};
+ghost use Rattle.std.specs.Prelude.{◌≡◌, ◌<◌, ◌≤◌, ◌↔◌, IsTrue};
 ghost use Rattle.ow_base.specs.Words.{minus};
 ghost use Rattle.record_layouts.specs.Head.{FitsHead};
 ghost use Rattle.record_layouts.specs.Patch.{IsPatch};
@@ -38,6 +38,13 @@ impl Caller {
         ensures { result ≡ argument_of self.now.process index }
     {
         self.process.regs.get(ARGUMENTS + index)
+    }
+
+    // The call that the process is in is a write.
+    pub(crate) fn is_in_write(&self) -> bool
+        ensures { IsTrue result ↔ self.now.process.call ≡ 2 }
+    {
+        self.process.call == WRITE
     }
 
     // The trap ends, and the process becomes this.

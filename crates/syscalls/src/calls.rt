@@ -112,12 +112,7 @@ fn tty_piece<V: RecordView>(view: &V, caller: &Caller, tty: u32, done: u32) -> S
 
 // A piece of a write on what the description is open on. Writes on files are not built: the trap is served, and the
 // process is what it was.
-fn piece<V: RecordView>(
-    view: &V,
-    caller: &Caller,
-    description: &DescRec,
-    done: u32,
-) -> Service
+fn piece<V: RecordView>(view: &V, caller: &Caller, description: &DescRec, done: u32) -> Service
     requires caller { IsCallerIn (V.records view.now) caller.now }
     requires fits { FitsDesc description.now }
     requires opened { description.now.object ≢ 0 }
@@ -242,7 +237,7 @@ pub fn next_piece<V: RecordView>(view: &V, slot: u32, now: &Now) -> Service
         head: view.head().unwrap(),
         trap: now.trap,
     };
-    if caller.process.call != WRITE {
+    if !caller.is_in_write() {
         return Service::Once {
             patch: caller.is_unchanged(),
         };

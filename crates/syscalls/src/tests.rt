@@ -51,7 +51,7 @@ fn told_by(process: &ProcRec, pc: u32, records: usize) -> After {
     let a0 = process.regs.get(10);
     match (process.state, process.call, process.done) {
         (1, 0, 0) if records == 2 && process.pc == pc.wrapping_add(4) => Behind(a0),
-        (2, 2, done) if records == 2 && process.pc == pc => Inside { done, a0 },
+        (2, 2 | 3, done) if records == 2 && process.pc == pc => Inside { done, a0 },
         (3, 0, 0) if records == 3 => Ended(process.status),
         _ => Wrong,
     }
@@ -92,6 +92,7 @@ fn entered(number: u32, arguments: [u32; 3], reads_only: bool) -> Asked {
     let view = SmallView {
         regs: Regs::new(),
         inside: false,
+        call: 0,
         done: 0,
         reads_only,
     };
@@ -103,14 +104,16 @@ fn entered(number: u32, arguments: [u32; 3], reads_only: bool) -> Asked {
     asked(&enter_call(&view, 3, &bank, &NOW), CALL)
 }
 
-// What the process asks for that goes on in a write through descriptor 0.
-fn continued(address: u32, count: u32, done: u32) -> Option<Asked> {
-    if done >= count || count > 0x7fff_ffff {
+// What the process asks for that goes on in a call through descriptor 0: in a write, or in a read of which nothing is
+// done.
+fn continued(call: u32, address: u32, count: u32, done: u32) -> Option<Asked> {
+    if done >= count || count > 0x7fff_ffff || call != 2 && (call != 3 || done != 0) {
         return None;
     }
     let view = SmallView {
-        regs: regs_with(2, [0, address, count]),
+        regs: regs_with(call, [0, address, count]),
         inside: true,
+        call,
         done,
         reads_only: false,
     };
@@ -126,119 +129,71 @@ const EINVAL: After = Behind(0xffff_ffea);
 
 const ENOSYS: After = Behind(0xffff_ffda);
 
-#[test]
-fn refused_writes(rt: HostRuntime) {
-    // descriptor, address, count; the descriptor only reads; the answer
-    let table = [
-        ([1, 0x10000, 0xffff_ffff], false, EBADF),
-        ([1, 0, 0], false, EBADF),
-        ([2, 0x10000, 3], false, EBADF),
-        ([8, 0x10000, 3], false, EBADF),
-        ([0xffff_ffff, 0x10000, 3], false, EBADF),
-        ([0, 0x10000, 0x8000_0000], true, EBADF),
-        ([0, 0x10000, 0], true, EBADF),
-        ([0, 0x10000, 0x8000_0000], false, EINVAL),
-        ([0, 0, 0xffff_ffff], false, EINVAL),
-        ([0, 0, 0x7fff_ffff], false, EFAULT),
-        ([0, 0, 0], false, Behind(0)),
-        ([0, 0xffff, 1], false, EFAULT),
-        ([0, 0x10ff8, 9], false, EFAULT),
-        ([0, 0x7fff_fff8, 16], false, EFAULT),
-        ([0, 0x7fff_bfff, 16], false, EFAULT),
-        ([0, 0xffff_ffff, 2], false, EFAULT),
-    ];
-    for (arguments, reads_only, answer) in table {
-        assert_eq!(rt;
-            entered(2, arguments, reads_only),
-            (None, answer),
-            "write {arguments:?}"
-        );
-    }
-}
+// The number of the call, its arguments, and whether the descriptor only reads; the piece, and what becomes of the
+// process.
+const CALLS: [(u32, [u32; 3], bool, Option<(u32, u32)>, After); 20] = [
+    (2, [1, 0, 0], false, None, EBADF),
+    (2, [8, 0x10000, 3], false, None, EBADF),
+    (2, [0xffff_ffff, 0x10000, 3], false, None, EBADF),
+    (2, [0, 0x10000, 0x8000_0000], true, None, EBADF),
+    (2, [0, 0, 0x8000_0000], false, None, EINVAL),
+    (2, [0, 0, 0x7fff_ffff], false, None, EFAULT),
+    (2, [0, 0, 0], false, None, Behind(0)),
+    (2, [0, 0x10ff8, 9], false, None, EFAULT),
+    (2, [0, 0x7fff_fff8, 16], false, None, EFAULT),
+    (2, [0, 0xffff_ffff, 2], false, None, EFAULT),
+    (2, [0, 0x10ff8, 8], false, Some((0x10ff8, 8)), Behind(8)),
+    (2, [0, 0x10000, 16], false, Some((0x10000, 16)), Behind(16)),
+    (
+        2,
+        [0, 0x10000, 17],
+        false,
+        Some((0x10000, 16)),
+        Inside { done: 16, a0: 0 },
+    ),
+    (
+        2,
+        [0, 0x7fff_fff0, 16],
+        false,
+        Some((0x7fff_fff0, 16)),
+        Behind(16),
+    ),
+    (1, [0x1ff, 0, 0], false, None, Ended(0xff)),
+    (1, [0x100, 0, 0], false, None, Ended(0)),
+    (7, [5, 0, 0], false, None, Behind(9)),
+    (18, [5, 0, 0], false, None, Behind(5)),
+    (3, [0, 0x10000, 3], false, None, ENOSYS),
+    (0xffff_ffff, [5, 0, 0], false, None, ENOSYS),
+];
+
+// The call, an address, a count and the bytes done; the piece, and what becomes of the process.
+const PIECES: [([u32; 4], Option<(u32, u32)>, After); 7] = [
+    (
+        [2, 0x10000, 40, 16],
+        Some((0x10010, 16)),
+        Inside { done: 32, a0: 0 },
+    ),
+    ([2, 0x10000, 40, 32], Some((0x10020, 8)), Behind(40)),
+    ([2, 0x10000, 48, 32], Some((0x10020, 16)), Behind(48)),
+    ([2, 0x10fe8, 100, 16], None, Behind(16)),
+    ([2, 0x11000, 40, 0], None, EFAULT),
+    ([2, 0xffff_fff0, 40, 16], None, Behind(16)),
+    // A read is left as it is.
+    ([3, 0x10000, 40, 0], None, Inside { done: 0, a0: 0 }),
+];
 
 #[test]
-fn first_pieces(rt: HostRuntime) {
-    // address, count; the bytes of the piece, what becomes of the process
-    let table = [
-        (0x10000, 1, 1, Behind(1)),
-        (0x10000, 15, 15, Behind(15)),
-        (0x10000, 16, 16, Behind(16)),
-        (0x10000, 17, 16, Inside { done: 16, a0: 0 }),
-        (0x10ff0, 0x7fff_ffff, 16, Inside { done: 16, a0: 0 }),
-        (0x10ff8, 8, 8, Behind(8)),
-        (0x7fff_c000, 16, 16, Behind(16)),
-        (0x7fff_fff0, 16, 16, Behind(16)),
-    ];
-    for (address, count, len, becomes) in table {
-        assert_eq!(rt;
-            entered(2, [0, address, count], false),
-            (Some((address, len)), becomes),
-            "write {count} at {address:x}"
-        );
+fn calls_and_pieces(rt: HostRuntime) {
+    for (number, arguments, reads_only, piece, becomes) in CALLS {
+        let asked = entered(number, arguments, reads_only);
+        assert_eq!(rt; asked, (piece, becomes), "call {number} {arguments:?}");
     }
-}
-
-#[test]
-fn further_pieces(rt: HostRuntime) {
-    // address, count, bytes done; the piece, what becomes of the process
-    let table = [
-        (
-            0x10000,
-            40,
-            16,
-            Some((0x10010, 16)),
-            Inside { done: 32, a0: 0 },
-        ),
-        (0x10000, 40, 32, Some((0x10020, 8)), Behind(40)),
-        (0x10000, 48, 32, Some((0x10020, 16)), Behind(48)),
-        (
-            0x10fe0,
-            100,
-            16,
-            Some((0x10ff0, 16)),
-            Inside { done: 32, a0: 0 },
-        ),
-        (0x10fe0, 100, 32, None, Behind(32)),
-        (0x10fe8, 100, 16, None, Behind(16)),
-        (
-            0x10fe8,
-            40,
-            0,
-            Some((0x10fe8, 16)),
-            Inside { done: 16, a0: 0 },
-        ),
-        (0x11000, 40, 0, None, EFAULT),
-        (0xffff_fff0, 40, 16, None, Behind(16)),
-    ];
-    for (address, count, done, range, becomes) in table {
+    for ([call, address, count, done], piece, becomes) in PIECES {
+        let asked = continued(call, address, count, done);
         assert_eq!(rt;
-            continued(address, count, done),
-            Some((range, becomes)),
+            asked,
+            Some((piece, becomes)),
             "{done} of {count} at {address:x}"
-        );
-    }
-}
-
-#[test]
-fn calls_without_bytes(rt: HostRuntime) {
-    // number, a0; what becomes of the process
-    let table = [
-        (1, 7, Ended(7)),
-        (1, 0, Ended(0)),
-        (1, 0x1ff, Ended(0xff)),
-        (1, 0x100, Ended(0)),
-        (7, 5, Behind(9)),
-        (18, 5, Behind(5)),
-        (0, 5, ENOSYS),
-        (3, 0, ENOSYS),
-        (19, 5, ENOSYS),
-        (0xffff_ffff, 5, ENOSYS),
-    ];
-    for (number, a0, becomes) in table {
-        assert_eq!(rt;
-            entered(number, [a0, 0x10000, 3], false),
-            (None, becomes),
-            "call {number}"
         );
     }
 }

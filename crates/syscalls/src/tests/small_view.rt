@@ -31,7 +31,8 @@ fn blank() -> Bank
     }
 }
 
-/// The kernel's process: its registers, the bytes done where it is in a write, and whether its descriptor 0 only reads.
+/// The kernel's process: its registers, the call that it is in and the bytes done, and whether its descriptor 0 only
+/// reads.
 ///
 /// It has one page of code and its stack. Descriptor 0 is on terminal 1, descriptor 1 names a description that is
 /// closed, and there are no others. All slots hold the process, but the pages have frames in slot 3 alone.
@@ -39,6 +40,7 @@ fn blank() -> Bank
 pub(crate) struct SmallView {
     pub(crate) regs: Regs,
     pub(crate) inside: bool,
+    pub(crate) call: u32,
     pub(crate) done: u32,
     pub(crate) reads_only: bool,
 }
@@ -63,9 +65,9 @@ impl WordSource for SmallView {
 impl RecordView for SmallView {
     ghost use Rattle.syscalls.specs.Small.{small_records, small_values};
 
-    ghost records = { λ s. small_records s.inside s.reads_only s.done s.regs };
+    ghost records = { λ s. small_records s.inside s.reads_only s.call s.done s.regs };
 
-    ghost values = { λ s. small_values s.inside s.reads_only s.done s.regs };
+    ghost values = { λ s. small_values s.inside s.reads_only s.call s.done s.regs };
 
     fn head(&self) -> Option<HeadRec> {
         Some(HeadRec {
@@ -79,7 +81,7 @@ impl RecordView for SmallView {
 
     fn proc(&self, _slot: u32) -> Option<ProcRec> {
         let (state, call, done) = if self.inside {
-            (2, 2, self.done)
+            (2, self.call, self.done)
         } else {
             (1, 0, 0)
         };
