@@ -1,0 +1,2 @@
+-- What contracts say of the hand-over of a panic.
+pub mod HandOver
