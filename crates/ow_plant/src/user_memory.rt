@@ -1,5 +1,5 @@
 //! Memory as a program sees it.
-ghost use Rattle.std.specs.Prelude.{◌≡◌, ℕ, ◌%◌, ◌+◌, ◌^◌, ◌≤◌, ◌<◌};
+ghost use Rattle.std.specs.Prelude.{◌≡◌, ℕ, ◌%◌, ◌/◌, ◌+◌, ◌^◌, ◌≤◌, ◌<◌};
 ghost use Rattle.ow_base.specs.Sv32.{value_of, overwritten, fault_cause};
 ghost use Rattle.ow_base.specs.UserStep.{fault_at, size_of};
 
@@ -7,7 +7,7 @@ use ow_base::{Access, Fault, PageCause, Width, WordSource};
 use phys_memory::Memory;
 use rv32_user::Space;
 use std::marker::Model;
-use sv32_tables::walk;
+use sv32_tables::{Reached, reach};
 
 /// Memory, and the register that names the page tables through which a program sees it.
 #[derive(Drop)]
@@ -44,22 +44,29 @@ fn fault(access: Access, cause: PageCause, va: u32) -> Fault
     Fault { cause, value: va }
 }
 
+/// What a word holds from byte `k` on.
+fn from_byte(word: u32, k: u32) -> u32
+    requires { k < 4 }
+    ensures { result ≡ word / 256 ^ k }
+{
+    match k {
+        0 => word,
+        1 => word / 0x100,
+        2 => word / 0x1_0000,
+        _ => word / 0x100_0000,
+    }
+}
+
 /// The value of a width that a word holds from byte `k` on, `k` being a multiple of the width.
 fn value_of(word: u32, k: u32, width: Width) -> u32
     requires { k + size_of width ≤ 4 }
     ensures value { result ≡ value_of word k width }
     ensures fits { result < 256 ^ size_of width }
 {
-    let from_there = match k {
-        0 => word,
-        1 => word / 0x100,
-        2 => word / 0x1_0000,
-        _ => word / 0x100_0000,
-    };
     match width {
-        Width::Byte => from_there % 0x100,
-        Width::Half => from_there % 0x1_0000,
-        Width::Word => from_there,
+        Width::Byte => from_byte(word, k) % 0x100,
+        Width::Half => from_byte(word, k) % 0x1_0000,
+        Width::Word => word,
     }
 }
 
@@ -88,16 +95,14 @@ impl UserMemory {
     ghost use Rattle.phys_memory.specs.Memory.{words_of};
 
     /// The value of a width at an address that is a multiple of it, for a fetch or a load.
+    #[inline(always)]
     fn read(&self, access: Access, va: u32, width: Width) -> Result<u32, Fault>
         requires { va % size_of width ≡ 0 }
         ensures value { result ≡ read_at (words_of self.now.memory) access width va (translated (words_of self.now.memory) self.now.satp va access) }
         ensures fits { IfOk result (λ value. value < 256 ^ size_of width) }
     {
-        match walk(&self.memory, self.satp, va, access) {
-            Ok(place) => {
-                let word = self.memory.load(place.frame, place.offset / 4).unwrap_or(0);
-                Ok(value_of(word, place.offset % 4, width))
-            }
+        match reach(&self.memory, self.satp, va, access) {
+            Ok(reached) => Ok(value_of(reached.word, reached.place.offset % 4, width)),
             Err(cause) => Err(fault(access, cause, va)),
         }
     }
@@ -124,11 +129,10 @@ impl Space for UserMemory {
 
     #[tactic(auto, unfolding(ow_base::specs::Sv32::sv32_space, crate::specs::State::seen_space, phys_memory::specs::Memory::words_of))]
     fn store(&mut self, va: u32, width: Width, value: u32) -> Result<(), Fault> {
-        let place = match walk(&self.memory, self.satp, va, Access::Store) {
-            Ok(place) => place,
+        let Reached { place, word } = match reach(&self.memory, self.satp, va, Access::Store) {
+            Ok(reached) => reached,
             Err(cause) => return Err(fault(Access::Store, cause, va)),
         };
-        let word = self.memory.load(place.frame, place.offset / 4).unwrap_or(0);
         let word = overwritten(word, place.offset % 4, width, value);
         self.memory.store(place.frame, place.offset / 4, word);
         Ok(())

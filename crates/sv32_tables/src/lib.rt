@@ -11,4 +11,4 @@ mod walking;
 pub use entry::{leaf, pointer};
 pub use laws::{leaf_is_read_back, nothing_is_mapped, pointer_is_read_back};
 pub use ow_base::{Access, PageCause, Phys, Rights, WordSource};
-pub use walking::walk;
+pub use walking::{Reached, reach, walk};
