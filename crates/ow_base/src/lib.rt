@@ -25,8 +25,8 @@ pub use sequence::List;
 pub use standard::{StdSink, StdSource};
 pub use transfer::{ReadAllFault, put_all, put_escaped, put_number, read_all};
 pub use worlds::{
-    Damage, DamageKind, Ending, FileText, KeyByte, Load, PanicLine, PanicRecord, Point, Program,
-    Start, World,
+    Damage, DamageKind, Ending, FileText, Hurt, KeyByte, Load, PanicLine, PanicRecord, Point,
+    Program, Start, World,
 };
 
 #[cfg(test)]

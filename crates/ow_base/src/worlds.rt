@@ -105,8 +105,34 @@ pub struct Point {
     pub agains: ArrayVec<u32, 4>,
 }
 
-/// A panic that happened: its trap, the number of stores made in it, and the listed store.
+/// A word of memory that a panic damaged, and the bits that changed in it.
 #[derive(Clone, Copy, Debug, PartialEq, Eq)]
+pub struct Hurt {
+    pub frame: u32,
+    pub word: u32,
+    pub mask: u32,
+}
+
+impl Default for Hurt {
+    ghost use Rattle.std.specs.Prelude.{◌≡◌};
+
+    /// The first word of memory, in which no bit changed.
+    fn default() -> Self
+        ensures { result ≡ record { frame = 0; word = 0; mask = 0 } }
+    {
+        Hurt {
+            frame: 0,
+            word: 0,
+            mask: 0,
+        }
+    }
+}
+
+/// A panic that happened: its trap, the number of stores made in it, and the listed store; whether the end of the trap
+/// was refused, the process of the trap, and the area of the kernel that panicked; the words of memory and of the disk,
+/// and how many bytes were written on each terminal; the damage that is listed, that which was done so far, and the
+/// refusals of the resurrection that came.
+#[derive(Debug, Drop)]
 pub struct PanicRecord {
     pub trap: u32,
     pub store: u32,
@@ -114,6 +140,12 @@ pub struct PanicRecord {
     pub at_leave: bool,
     pub pid: u32,
     pub area: AreaId,
+    pub image: List<u32>,
+    pub disk: List<u32>,
+    pub tapes: [u32; 2],
+    pub lines: ArrayVec<Damage, 16>,
+    pub damage: ArrayVec<Hurt, 16>,
+    pub broken: ArrayVec<u32, 4>,
 }
 
 /// A world: the load, the bytes that are typed on the two terminals, and the panics.
