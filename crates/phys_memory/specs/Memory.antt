@@ -1,5 +1,5 @@
 -- Memory: frames of 1,024 words in one numbering, the boot frame first, then the frames of half A, then those of half B.
-use Rattle.std.specs.Prelude.{◌≡◌, ℕ, ◌+◌, ◌-◌, ◌*◌, ◌/◌, ◌%◌, nat_lt, ◌&&◌, if◌then◌else◌, List, ◌++◌, length, replicate, slice_index, slice_set, Some, None}
+use Rattle.std.specs.Prelude.{◌≡◌, ℕ, ◌+◌, ◌-◌, ◌*◌, ◌/◌, ◌%◌, nat_lt, ◌&&◌, if◌then◌else◌, List, ◌++◌, drop, length, replicate, slice_index, slice_set, Some, None}
 use Rattle.ow_base.specs.Sv32.{WordMap}
 
 -- the words of the boot frame and of the two halves
@@ -29,6 +29,10 @@ with_nth m at value =
 -- the parts with one word of a frame set
 unfoldable pub with_word : MemoryParts → (frame word value : ℕ) → MemoryParts
 with_word m frame word value = with_nth m (1024 * frame + word) value
+
+-- the parts with the first words of the boot frame set
+abbrev pub with_first : MemoryParts → (words : List ℕ) → MemoryParts
+with_first m words = record m { boot = words ++ drop (length words) m.boot }
 
 -- each part is made of whole frames
 pub record AreWholeFrames (m : MemoryParts) : Type 0 where

@@ -1,5 +1,5 @@
 //! Frames of words.
-ghost use Rattle.std.specs.Prelude.{◌≡◌, ℕ, ◌+◌, ◌*◌, ◌^◌, ◌<◌, ◌≤◌, [], IfOk, length, slice_index, slice_set};
+ghost use Rattle.std.specs.Prelude.{◌≡◌, ℕ, ◌+◌, ◌*◌, ◌^◌, ◌<◌, ◌≤◌, [], ◌++◌, drop, IfOk, length, slice_index, slice_set};
 ghost use Rattle.phys_memory.specs.Memory.{blank_frames};
 
 use std::alloc::{AllocError, Global};
@@ -59,6 +59,22 @@ impl Frames {
         ensures { result ≡ slice_index self.now (1024 * frame + word) }
     {
         self.words[FRAME_LENGTH * frame + word as usize]
+    }
+
+    /// The words, frame by frame.
+    pub(crate) fn words(&self) -> &[u32]
+        ensures { result.now ≡ self.now }
+    {
+        self.words.as_slice()
+    }
+
+    /// Writes the first words of the first frame.
+    pub(crate) fn set_first(&mut self, words: &[u32; 40])
+        requires { 40 ≤ length self.old }
+        ensures { self.new ≡ words.now ++ drop 40 self.old }
+    {
+        let (first, _) = self.words.as_mut_slice().split_at_mut(40);
+        first.copy_from_slice(words);
     }
 
     /// Writes the word of a frame, counted from the first of these, at a place below 1,024.

@@ -1,7 +1,8 @@
 //! Memory as a whole.
 ghost use Rattle.std.specs.Prelude.{◌≡◌, ℕ, ◌<◌, ◌≤◌, ◌==◌, if◌then◌else◌, true, false, [], length, IfOk};
 ghost use Rattle.std.specs.Borrow.{sem};
-ghost use Rattle.phys_memory.specs.Memory.{AreWholeFrames, frame_count, words_of, with_word, zeroed};
+ghost use Rattle.std.specs.Vec.{vec_capacity};
+ghost use Rattle.phys_memory.specs.Memory.{AreWholeFrames, frame_count, whole, words_of, with_first, with_word, zeroed};
 ghost use Rattle.phys_memory.specs.Halves.{first_own, is_own, own_half, with_own, words_beside};
 ghost use Rattle.phys_memory.specs.Lending.{LendsOwn};
 ghost use Rattle.phys_memory.specs.Reading.{words_read};
@@ -84,6 +85,27 @@ impl Memory {
         } else {
             self.b.set_word(frame - a, word, value);
         }
+    }
+
+    /// Writes the first 40 words of the boot frame, which must be there. No other word changes.
+    pub fn set_first(&mut self, words: &[u32; 40])
+        requires boot { 40 ≤ length self.old.boot }
+        ensures { self.new ≡ with_first self.old words.now }
+    {
+        self.boot.set_first(words);
+    }
+
+    /// All words in the order of their numbers, in a vector that is empty and has room for them. It takes no memory.
+    pub fn image_in(&self, room: Vec<u32>) -> Vec<u32>
+        requires empty { room.items ≡ [] }
+        requires room { length (whole self.now) ≤ vec_capacity room }
+        ensures { result.items ≡ whole self.now }
+    {
+        let mut image = room;
+        let _ = image.extend_from_slice(self.boot.words());
+        let _ = image.extend_from_slice(self.a.words());
+        let _ = image.extend_from_slice(self.b.words());
+        image
     }
 
     /// Lends the half that is not `dead` for writing, and all the rest for reading, both at once.
