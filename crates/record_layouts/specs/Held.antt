@@ -3,22 +3,13 @@
 use Rattle.std.specs.Prelude.{◌≡◌, ℕ, ◌+◌, ◌-◌, ◌*◌, ◌<◌, ◌≤◌, Bool, true, false, nat_lt, not, ◌==◌, ◌&&◌, ◌||◌, if◌then◌else◌, List, [], ◌∷◌, take, All, Option, Some, None, is_some, IfSome}
 use Rattle.ow_base.specs.Sv32.{WordMap, word_or_zero}
 use Rattle.ow_base.specs.Words.{updated}
-use Rattle.record_layouts.specs.declared.memory_map.MemoryMap.{MemoryMap}
-use Rattle.record_layouts.specs.declared.head.HeadRec.{HeadRec}
-use Rattle.record_layouts.specs.declared.proc.ProcRec.{ProcRec}
-use Rattle.record_layouts.specs.declared.sig.SigRec.{SigRec}
-use Rattle.record_layouts.specs.declared.desc.DescRec.{DescRec}
-use Rattle.record_layouts.specs.declared.file.FileRec.{FileRec}
-use Rattle.record_layouts.specs.declared.cache.CacheRec.{CacheRec}
-use Rattle.record_layouts.specs.declared.term.TermRec.{TermRec}
-use Rattle.record_layouts.specs.declared.row.RowRec.{RowRec}
-use Rattle.record_layouts.specs.declared.exit.ExitRec.{ExitRec}
 use Rattle.record_layouts.specs.declared.places.RecordId.{RecordId}
 use Rattle.record_layouts.specs.declared.places.RecordId.TheVariants as id
 use Rattle.record_layouts.specs.declared.patch.AnyRec.{AnyRec}
 use Rattle.record_layouts.specs.declared.patch.AnyRec.TheVariants as any
 use Rattle.record_layouts.specs.declared.patch.PatchItem.{PatchItem}
 use Rattle.record_layouts.specs.Patch.{IsPatch}
+pub use Rattle.record_layouts.specs.Records.{Records}
 use Rattle.record_layouts.specs.Head.{FitsHead}
 use Rattle.record_layouts.specs.Proc.{FitsProc}
 use Rattle.record_layouts.specs.Sig.{FitsSig}
@@ -28,24 +19,6 @@ use Rattle.record_layouts.specs.Cache.{FitsCache}
 use Rattle.record_layouts.specs.Term.{FitsTerm}
 use Rattle.record_layouts.specs.Row.{FitsRow}
 use Rattle.record_layouts.specs.Exit.{FitsExit}
-
--- The records of an area, none where the words are no record. Processes and signals go by slot, exits by pid, the
--- others by their number; the words that name the owners of frames go by user frame and by cache entry.
-pub record Records : Type 0 where
-  -- where the area, the cache and the user frames are
-  pub map : MemoryMap
-  pub head : Option HeadRec
-  pub procs : ℕ → Option ProcRec
-  pub sigs : ℕ → Option SigRec
-  pub descs : ℕ → Option DescRec
-  pub files : ℕ → Option FileRec
-  pub caches : ℕ → Option CacheRec
-  pub terms : ℕ → Option TermRec
-  pub rows : ℕ → Option RowRec
-  pub exits : ℕ → Option ExitRec
-  pub owners : ℕ → ℕ
-  pub cache_owners : ℕ → ℕ
-  pub table_words : (slot table word : ℕ) → ℕ
 
 -- each record is one that can be spelled
 pub record AreValues (r : Records) : Type 0 where
