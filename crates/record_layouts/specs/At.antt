@@ -13,16 +13,17 @@ use Rattle.record_layouts.specs.declared.places.RecordId.{RecordId}
 use Rattle.record_layouts.specs.declared.places.RecordId.TheVariants as id
 use Rattle.record_layouts.specs.declared.patch.AnyRec.{AnyRec}
 use Rattle.record_layouts.specs.declared.patch.AnyRec.TheVariants as any
+use Rattle.record_layouts.specs.Patch.{FitsAny}
 use Rattle.record_layouts.specs.Records.{Records}
-use Rattle.record_layouts.specs.Head.{FitsHead, head_in}
-use Rattle.record_layouts.specs.Proc.{FitsProc, proc_in}
-use Rattle.record_layouts.specs.Sig.{FitsSig, sig_in}
-use Rattle.record_layouts.specs.Desc.{FitsDesc, desc_in}
-use Rattle.record_layouts.specs.File.{FitsFile, file_on_disk}
-use Rattle.record_layouts.specs.Cache.{FitsCache, cache_in}
-use Rattle.record_layouts.specs.Term.{FitsTerm, term_in}
-use Rattle.record_layouts.specs.Row.{FitsRow, row_in}
-use Rattle.record_layouts.specs.Exit.{FitsExit, exit_in}
+use Rattle.record_layouts.specs.Head.{head_in}
+use Rattle.record_layouts.specs.Proc.{proc_in}
+use Rattle.record_layouts.specs.Sig.{sig_in}
+use Rattle.record_layouts.specs.Desc.{desc_in}
+use Rattle.record_layouts.specs.File.{file_on_disk}
+use Rattle.record_layouts.specs.Cache.{cache_in}
+use Rattle.record_layouts.specs.Term.{term_in}
+use Rattle.record_layouts.specs.Row.{row_in}
+use Rattle.record_layouts.specs.Exit.{exit_in}
 
 -- what a record of the kind that an id names has
 abbrev pub RecOf : RecordId → Type 0
@@ -87,15 +88,7 @@ read_as sectors (id.Exit pid) words = exit_in words
 
 -- the record can be spelled
 abbrev pub Fits : (one : RecordId) → RecOf one → Type 0
-Fits id.Head = FitsHead
-Fits (id.Proc slot) = FitsProc
-Fits (id.Sig slot) = FitsSig
-Fits (id.Desc index) = FitsDesc
-Fits (id.File index) = FitsFile
-Fits (id.Cache index) = FitsCache
-Fits (id.Term tty) = FitsTerm
-Fits (id.Row index) = FitsRow
-Fits (id.Exit pid) = FitsExit
+Fits one value = FitsAny (as_any one value)
 
 -- the ids name the same record
 abbrev pub is_same : (one other : RecordId) → Bool
