@@ -11,7 +11,7 @@ use Rattle.record_layouts.specs.declared.proc.ProcRec.{ProcRec}
 use Rattle.record_layouts.specs.declared.sig.SigRec.{SigRec}
 use Rattle.record_layouts.specs.declared.desc.DescRec.{DescRec}
 use Rattle.record_layouts.specs.declared.exit.ExitRec.{ExitRec}
-use Rattle.record_layouts.specs.Held.{Records}
+use Rattle.record_layouts.specs.Held.{Records, with_record}
 use Rattle.record_layouts.specs.Head.{FitsHead}
 use Rattle.record_layouts.specs.Pages.{is_live, is_mapped, region_of, high_place}
 use Rattle.record_layouts.specs.Proc.{FitsProc}
@@ -157,10 +157,11 @@ module _ (r : Records) (head : HeadRec) (slot : ℕ) (process after : ProcRec) (
   pub after_sound : AreSound (changed_records r head slot process after r.sigs trap)
   after_sound =
       let head_fits : FitsHead head = subst (λ (h : Option HeadRec). IfSome h FitsHead) is_head (sound.values id.Head) in
+      let after_head = with_record r id.Head (any.Head (served head trap process.pid)) in
       record {
-        complete = complete_with _ (id.Proc slot) (any.Proc after)
+        complete = complete_with after_head (id.Proc slot) (any.Proc after)
             (complete_with r id.Head (any.Head (served head trap process.pid)) sound.complete tt) tt;
-        values = values_with _ (id.Proc slot) (any.Proc after)
+        values = values_with after_head (id.Proc slot) (any.Proc after)
             (values_with r id.Head (any.Head (served head trap process.pid)) sound.values tt (served_fits head trap process.pid head_fits)) tt fits;
         numbered = numbered_now;
         in_calls = calls_now;
