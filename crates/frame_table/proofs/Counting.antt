@@ -1,8 +1,9 @@
 -- Which pages the regions of a process hold, and how many.
-use Rattle.std.proofs.Common.{◌≡◌, ℕ, zero, suc, ◌+◌, ◌-◌, ◌^◌, ◌<◌, ◌≤◌, ◌⊎◌, true, false, min, Option, Some, None, is_some, refl, ap, inl, inr, arith}
+use Rattle.std.proofs.Common.{◌≡◌, ℕ, zero, suc, ◌+◌, ◌-◌, ◌^◌, ◌<◌, ◌≤◌, ◌⊎◌, true, false, min, Option, Some, None, is_some, IfSome, refl, ap, subst, inl, inr, arith}
 use Rattle.std.proofs.lemmas.Bool.{cases_Bool, cases_lt}
 use Rattle.std.proofs.lemmas.Bool.Decides.{nat_tests}
 use Rattle.ow_base.specs.declared.machine.Rights.{Rights}
+use Rattle.record_layouts.specs.declared.places.RecordId.TheVariants as id
 use Rattle.record_layouts.specs.declared.proc.ProcRec.{ProcRec}
 use Rattle.record_layouts.specs.Held.{AreValues, Records}
 use Rattle.record_layouts.specs.Proc.{FitsProc, FitsLive}
@@ -19,7 +20,7 @@ IsOfRegions process page = ((16 ≤ page) × (page < values_end process)) ⊎ ((
 
 -- a record that is there is a value of its layout
 pub fits_there : (r : Records) (slot : ℕ) (process : ProcRec) → AreValues r → r.procs slot ≡ Some process → FitsProc process
-fits_there r slot process values there = rw there at (values.procs slot)
+fits_there r slot process values there = subst (λ (held : Option ProcRec). IfSome held FitsProc) there (values (id.Proc slot))
 
 pub live_fits : (process : ProcRec) → FitsProc process → is_live process ≡ true → FitsLive process
 live_fits process fits live = fits.live (grind (arith, nat_tests))

@@ -1,62 +1,35 @@
 -- Words behind an area are of none of its records: areas with the same words in their 64 frames have the same records.
 use Rattle.std.proofs.Common.{◌≡◌, ℕ, ◌+◌, ◌*◌, ◌/◌, ◌<◌, ◌≤◌, Bool, true, false, if◌then◌else◌, nat_lt, ◌==◌, ◌&&◌, List, Option, None, refl, ap, ◌∙◌, arith, inl, inr}
 use Rattle.std.proofs.lemmas.Bool.{cases_Bool, ltb-true}
+use Rattle.std.proofs.lemmas.Grind.{common_steps}
 use Rattle.std.proofs.lemmas.Bool.Decides.{nat_tests}
 use Rattle.ow_base.specs.Sv32.{WordMap}
 use Rattle.record_layouts.specs.declared.memory_map.MemoryMap.{MemoryMap}
 use Rattle.record_layouts.specs.declared.places.RecordId.{RecordId}
-use Rattle.record_layouts.specs.declared.places.RecordId.TheVariants as id
-use Rattle.record_layouts.specs.Places.{first_word, length_of}
+use Rattle.record_layouts.specs.Places.{IsRecordId, first_word, length_of}
 use Rattle.record_layouts.specs.Overlay.{Area, area_at, gate_of, gate_word, open_ranges, overlay}
-use Rattle.record_layouts.specs.Spelling.{lies_between}
-use Rattle.record_layouts.specs.Tests.{decides_between}
 use Rattle.record_layouts.specs.Reading.{is_readable_gate, records_in, records_of, words_of}
 use Rattle.record_layouts.specs.Seam.{with_frame_words}
-use Rattle.record_layouts.specs.Head.{head_in}
-use Rattle.record_layouts.specs.Proc.{proc_in}
-use Rattle.record_layouts.specs.Sig.{sig_in}
-use Rattle.record_layouts.specs.Desc.{desc_in}
-use Rattle.record_layouts.specs.File.{file_on_disk}
-use Rattle.record_layouts.specs.Cache.{cache_in}
-use Rattle.record_layouts.specs.Term.{term_in}
-use Rattle.record_layouts.specs.Row.{row_in}
-use Rattle.record_layouts.specs.Exit.{exit_in}
 use Rattle.record_layouts.proofs.Intents.{open_ranges-same, words_from-same}
-use Rattle.record_layouts.proofs.Seam.{same_where}
+use Rattle.record_layouts.proofs.At.{same_each, same_records, same_where}
 
 module _ (some other : Area) (same : (number : ℕ) → number < 65536 → some number ≡ other number) where
-  same_words : (one : RecordId) → first_word one + length_of one ≤ 65536 → words_of some one ≡ words_of other one
-  same_words one within = words_from-same some other (first_word one) (length_of one) (λ number from to. same number (omega arith))
-
-  same_read : {A : Type 0} (read : List ℕ → Option A) (kind : ℕ → RecordId) (test : ℕ → Bool)
-      → ((i : ℕ) → test i ≡ true → first_word (kind i) + length_of (kind i) ≤ 65536)
-      → (i : ℕ) → (if test i then read (words_of some (kind i)) else None) ≡ (if test i then read (words_of other (kind i)) else None)
-  same_read read kind test valid i = elim (cases_Bool (test i)) [
-    | inl holds ↦ rw holds (ap read (same_words (kind i) (valid i holds)))
-    | inr fails ↦ rw fails refl
-  ]
+  same_words : (one : RecordId) → IsRecordId one → words_of some one ≡ words_of other one
+  same_words one there =
+      let within : first_word one + length_of one ≤ 65536 = grind (arith, common_steps) in
+      words_from-same some other (first_word one) (length_of one) (λ number from to. same number (omega arith))
 
   records_within : (map : MemoryMap) → map.user_frames ≤ 384 → (is_readable : Bool) → records_in map is_readable some ≡ records_in map is_readable other
   unfolding records_in
-  records_within map room is_readable = λ j. record {
-    map = map;
-    head = ap (λ words. if is_readable then head_in words else None) (same_words id.Head (omega arith)) j;
-    procs = λ i. same_read proc_in (λ k. id.Proc k) (λ k. nat_lt k 16) (λ k holds. let less = ltb-true k 16 holds in omega arith) i j;
-    sigs = λ i. same_read sig_in (λ k. id.Sig k) (λ k. nat_lt k 16) (λ k holds. let less = ltb-true k 16 holds in omega arith) i j;
-    descs = λ i. same_read desc_in (λ k. id.Desc k) (λ k. nat_lt k 32) (λ k holds. let less = ltb-true k 32 holds in omega arith) i j;
-    files = λ i. same_read (file_on_disk map.sectors) (λ k. id.File k) (λ k. nat_lt k 32) (λ k holds. let less = ltb-true k 32 holds in omega arith) i j;
-    caches = λ i. same_read cache_in (λ k. id.Cache k) (λ k. nat_lt k 64) (λ k holds. let less = ltb-true k 64 holds in omega arith) i j;
-    terms = λ i. same_read term_in (λ k. id.Term k) (λ k. nat_lt k 2) (λ k holds. let less = ltb-true k 2 holds in omega arith) i j;
-    rows = λ i. same_read row_in (λ k. id.Row k) (λ k. nat_lt k 48) (λ k holds. let less = ltb-true k 48 holds in omega arith) i j;
-    exits = λ i. same_read exit_in (λ k. id.Exit k) (λ k. lies_between 1 256 k) (λ k holds. let few = (decides_between 1 256 k).0 holds in omega (arith, few.0, few.1)) i j;
-    owners = λ i. same_where (nat_lt i map.user_frames) (some (10240 + i)) (other (10240 + i))
-        (λ holds. same (10240 + i) (let less = ltb-true i map.user_frames holds in omega arith)) j;
-    cache_owners = λ i. same_where (nat_lt i 64) (some (11200 + i)) (other (11200 + i))
-        (λ holds. same (11200 + i) (let less = ltb-true i 64 holds in omega arith)) j;
-    table_words = λ s t w. same_where (nat_lt s 16 && nat_lt t 3 && nat_lt w 1024) (some (1024 * (16 + 3 * s + t) + w)) (other (1024 * (16 + 3 * s + t) + w))
-        (λ holds. same (1024 * (16 + 3 * s + t) + w)
-        (let frame : 16 + 3 * s + t < 64 = grind (arith, nat_tests) in let small : w < 1024 = grind (arith, nat_tests) in omega arith)) j;
-  }
+  records_within map room is_readable = same_records (records_in map is_readable some) (records_in map is_readable other) refl
+      (same_each map is_readable some other same_words)
+      (λ i. same_where 0 (nat_lt i map.user_frames) (some (10240 + i)) (other (10240 + i))
+      (λ holds. same (10240 + i) (let less = ltb-true i map.user_frames holds in omega arith)))
+      (λ i. same_where 0 (nat_lt i 64) (some (11200 + i)) (other (11200 + i))
+      (λ holds. same (11200 + i) (let less = ltb-true i 64 holds in omega arith)))
+      (λ s t w. same_where 0 (nat_lt s 16 && nat_lt t 3 && nat_lt w 1024) (some (1024 * (16 + 3 * s + t) + w)) (other (1024 * (16 + 3 * s + t) + w))
+      (λ holds. same (1024 * (16 + 3 * s + t) + w)
+      (let frame : 16 + 3 * s + t < 64 = grind (arith, nat_tests) in let small : w < 1024 = grind (arith, nat_tests) in omega arith)))
 
   same_gate : gate_of some ≡ gate_of other
   same_gate =

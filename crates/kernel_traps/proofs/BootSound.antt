@@ -4,6 +4,7 @@ use Rattle.ow_base.specs.Screen.{blank_screen, screen_of}
 use Rattle.ow_base.specs.declared.machine.Shape.{Shape}
 use Rattle.ow_base.specs.declared.worlds.Load.{Load}
 use Rattle.phys_memory.specs.Memory.{words_of}
+use Rattle.record_layouts.specs.declared.places.RecordId.TheVariants as id
 use Rattle.record_layouts.specs.declared.proc.ProcRec.{ProcRec}
 use Rattle.record_layouts.specs.Held.{AreComplete, AreValues, Records}
 use Rattle.record_layouts.specs.Pages.{is_mapped}
@@ -30,17 +31,15 @@ use Rattle.kernel_traps.proofs.BootUnix.{unix_same}
 
 module _ (r : Records) (load : Load) (is : IsBootable load) (b : IsBooted r load) where
   are_complete : AreComplete r
-  are_complete = record {
-    head = ap is_some b.head;
-    procs = λ i low. ap is_some (b.procs i low);
-    sigs = λ i low. ap is_some (b.sigs i low);
-    descs = λ i low. ap is_some (b.descs i low);
-    files = λ i low. ap is_some (b.files i low);
-    caches = λ i low. ap is_some (b.caches i low);
-    terms = λ i low. ap is_some (b.terms i low);
-    rows = λ i low. ap is_some (b.rows i low);
-    exits = λ i low high. ap is_some (b.exits i low high);
-  }
+  are_complete id.Head there = ap is_some b.head
+  are_complete (id.Proc slot) low = ap is_some (b.procs slot low)
+  are_complete (id.Sig slot) low = ap is_some (b.sigs slot low)
+  are_complete (id.Desc index) low = ap is_some (b.descs index low)
+  are_complete (id.File index) low = ap is_some (b.files index low)
+  are_complete (id.Cache index) low = ap is_some (b.caches index low)
+  are_complete (id.Term tty) low = ap is_some (b.terms tty low)
+  are_complete (id.Row index) low = ap is_some (b.rows index low)
+  are_complete (id.Exit pid) within = ap is_some (b.exits pid within.0 within.1)
 
   mapped : (slot : ℕ) (process : ProcRec) → IsIn r slot process → is_mapped r slot process ≡ true
   mapped slot process inside =

@@ -3,6 +3,7 @@ use Rattle.std.proofs.Common.{◌≡◌, ◌==◌, ◌+◌, ◌*◌, ◌^◌, �
 use Rattle.std.proofs.lemmas.Bool.{cases_Bool}
 use Rattle.ow_base.specs.Pages.{Pages, bytes_at}
 use Rattle.phys_memory.specs.Memory.{words_of}
+use Rattle.record_layouts.specs.declared.places.RecordId.TheVariants as id
 use Rattle.record_layouts.specs.declared.head.HeadRec.{HeadRec}
 use Rattle.record_layouts.specs.declared.term.TermRec.{TermRec}
 use Rattle.record_layouts.specs.declared.row.RowRec.{RowRec}
@@ -151,8 +152,8 @@ write_kept s new steps tty from len bytes items put trap most step ends low shor
     let beside : records_held new ≡ shown_by (with_items r items) put.records.terms put.records.rows = now ∙ items_beside r put.records.terms put.records.rows items of in
     let sound : AreSound (shown_by r put.records.terms put.records.rows) =
     between_sound r put.records tty bytes trap.held.records is.drawn
-    (λ other. subst (λ (f : ℕ → Option TermRec). IfSome (f other) FitsTerm) terms (values.terms other))
-    (λ i. subst (λ (f : ℕ → Option RowRec). IfSome (f i) FitsRow) rows (values.rows i)) in
+    (λ other. subst (λ (f : ℕ → Option TermRec). IfSome (f other) FitsTerm) terms (values (id.Term other)))
+    (λ i. subst (λ (f : ℕ → Option RowRec). IfSome (f i) FitsRow) rows (values (id.Row i))) in
     record {
       tty0 = (with_puts (rest_of s) tty bytes).tty0;
       tty1 = (with_puts (rest_of s) tty bytes).tty1;

@@ -7,6 +7,7 @@ use Rattle.ow_base.specs.Sv32.{WordMap}
 use Rattle.ow_base.specs.Words.{updated}
 use Rattle.ow_base.specs.UserStep.{register}
 use Rattle.ow_base.specs.declared.machine.Bank.{Bank}
+use Rattle.record_layouts.proofs.At.{complete_with, values_with}
 use Rattle.record_layouts.specs.declared.head.HeadRec.{HeadRec}
 use Rattle.record_layouts.specs.declared.proc.ProcRec.{ProcRec}
 use Rattle.record_layouts.specs.declared.sig.SigRec.{SigRec}
@@ -171,32 +172,13 @@ served_were r head trap = record {
 served_sound : (r : Records) (head : HeadRec) (trap : ℕ) → AreSound r → r.head ≡ Some head → AreSound (served_records r head trap)
 served_sound r head trap sound is_head =
     let next : next_by r.head ≡ head.next = ap next_by is_head in
-    let fits : FitsHead head = subst (λ (held : Option HeadRec). IfSome held FitsHead) is_head sound.values.head in
+    let fits : FitsHead head = subst (λ (held : Option HeadRec). IfSome held FitsHead) is_head (sound.values id.Head) in
     let held : AreNumbered r = sound.numbered in
     let were = served_were r head trap in
     record {
-      complete = record {
-        head = refl;
-        procs = sound.complete.procs;
-        sigs = sound.complete.sigs;
-        descs = sound.complete.descs;
-        files = sound.complete.files;
-        caches = sound.complete.caches;
-        terms = sound.complete.terms;
-        rows = sound.complete.rows;
-        exits = sound.complete.exits;
-      };
-      values = record {
-        head = record { layout = fits.layout; next_from = fits.next_from; next_to = fits.next_to; hand = fits.hand };
-        procs = sound.values.procs;
-        sigs = sound.values.sigs;
-        descs = sound.values.descs;
-        files = sound.values.files;
-        caches = sound.values.caches;
-        terms = sound.values.terms;
-        rows = sound.values.rows;
-        exits = sound.values.exits;
-      };
+      complete = complete_with r id.Head (any.Head (record head { served = trap })) sound.complete tt;
+      values = values_with r id.Head (any.Head (record head { served = trap })) sound.values tt
+          (record { layout = fits.layout; next_from = fits.next_from; next_to = fits.next_to; hand = fits.hand });
       numbered = record {
         used = λ pid from to. held.used pid from to ∙ ap (λ (n : ℕ). nat_lt pid n) next;
         one_slot = held.one_slot;

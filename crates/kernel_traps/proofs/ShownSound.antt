@@ -1,11 +1,12 @@
 -- Records stay sound while bytes are drawn in them.
 use Rattle.std.proofs.Common.{◌≡◌, ◌+◌, ◌-◌, ◌*◌, ◌/◌, ◌<◌, ℕ, true, List, Option, IfSome, is_some, inl, inr, ap, ◌∙◌, arith}
 use Rattle.std.proofs.lemmas.Bool.Decides.{eqb_tells}
+use Rattle.record_layouts.specs.declared.places.RecordId.TheVariants as id
 use Rattle.record_layouts.specs.declared.proc.ProcRec.{ProcRec}
 use Rattle.record_layouts.specs.declared.desc.DescRec.{DescRec}
 use Rattle.record_layouts.specs.declared.term.TermRec.{TermRec}
 use Rattle.record_layouts.specs.declared.row.RowRec.{RowRec}
-use Rattle.record_layouts.specs.Held.{AreComplete, Records}
+use Rattle.record_layouts.specs.Held.{AreComplete, AreValues, Records}
 use Rattle.record_layouts.specs.Row.{FitsRow}
 use Rattle.record_layouts.specs.Term.{FitsTerm}
 use Rattle.record_layouts.specs.Sound.{AreInCalls, AreMapped, AreNumbered, AreOnTerminals, AreSound, IsIn, IsInCall, IsTransfer}
@@ -74,37 +75,24 @@ module _ (r : Records) (terms : ℕ → Option TermRec) (rows : ℕ → Option R
     clean = λ slot process is table word few small no_place. sound.clean slot process (was_in slot process is) table word few small no_place;
   }
 
+  complete_too : AreComplete r → AreShown terms rows → AreComplete (shown_by r terms rows)
+  complete_too complete shown (id.Term tty) there = shown.terms_decode tty there
+  complete_too complete shown (id.Row index) there = shown.rows_decode index there
+  complete_too complete shown one there = complete one there
+
+  values_too : AreValues r → AreShown terms rows → AreValues (shown_by r terms rows)
+  values_too values shown (id.Term tty) = shown.terms_fit tty
+  values_too values shown (id.Row index) = shown.rows_fit index
+  values_too values shown one = values one
+
   pub shown_sound : AreSound r → AreShown terms rows → AreSound (shown_by r terms rows)
-  shown_sound sound shown =
-      let complete = sound.complete in
-      let values = sound.values in
-      record {
-        complete = record {
-          head = complete.head;
-          procs = complete.procs;
-          sigs = complete.sigs;
-          descs = complete.descs;
-          files = complete.files;
-          caches = complete.caches;
-          terms = shown.terms_decode;
-          rows = shown.rows_decode;
-          exits = complete.exits;
-        };
-        values = record {
-          head = values.head;
-          procs = values.procs;
-          sigs = values.sigs;
-          descs = values.descs;
-          files = values.files;
-          caches = values.caches;
-          terms = shown.terms_fit;
-          rows = shown.rows_fit;
-          exits = values.exits;
-        };
-        numbered = numbered_too sound.numbered;
-        in_calls = calls_too sound.in_calls;
-        mapped = mapped_too sound.mapped;
-      }
+  shown_sound sound shown = record {
+    complete = complete_too sound.complete shown;
+    values = values_too sound.values shown;
+    numbered = numbered_too sound.numbered;
+    in_calls = calls_too sound.in_calls;
+    mapped = mapped_too sound.mapped;
+  }
 
   pub on_terminals_too : AreOnTerminals r → AreOnTerminals (shown_by r terms rows)
   on_terminals_too on = record { each = λ slot process is fd within named. on.each slot process (was_in slot process is) fd within named }
@@ -117,7 +105,7 @@ module _ (tty : ℕ) (bytes : List ℕ) (old new : Records) (drawn : AreDrawn tt
   pub drawn_terms : (other : ℕ) → other < 2 → is_some (new.terms other) ≡ true
   drawn_terms other low = elim (eqb_tells other tty) [
     | inl (test, same) ↦ ap (λ (k : ℕ). is_some (new.terms k)) same ∙ drawn.decodes.terminal
-    | inr (test, apart) ↦ ap (λ (held : Option TermRec). is_some held) (drawn.beside.terms other apart) ∙ complete.terms other low
+    | inr (test, apart) ↦ ap (λ (held : Option TermRec). is_some held) (drawn.beside.terms other apart) ∙ complete (id.Term other) low
   ]
 
   pub drawn_rows : (index : ℕ) → index < 48 → is_some (new.rows index) ≡ true
@@ -127,5 +115,5 @@ module _ (tty : ℕ) (bytes : List ℕ) (old new : Records) (drawn : AreDrawn tt
         ap (λ (k : ℕ). is_some (new.rows k)) place ∙ drawn.decodes.rows (index - 24 * tty) (omega (arith, same))
     | inr (test, apart) ↦
         let outside : (IsRowOf tty index → ⊥) = λ within. apart (omega (arith, within.0, within.1)) in
-        ap (λ (held : Option RowRec). is_some held) (drawn.beside.rows index outside) ∙ complete.rows index low
+        ap (λ (held : Option RowRec). is_some held) (drawn.beside.rows index outside) ∙ complete (id.Row index) low
   ]

@@ -3,6 +3,7 @@ use Rattle.std.proofs.Common.{◌≡◌, ◌∙◌, ◌+◌, ◌-◌, ◌^◌, �
 use Rattle.phys_memory.specs.Memory.{words_of}
 use Rattle.ow_base.specs.declared.machine.Came.{Came}
 use Rattle.ow_base.specs.declared.machine.Came.TheVariants as came
+use Rattle.record_layouts.specs.declared.places.RecordId.TheVariants as id
 use Rattle.record_layouts.specs.declared.head.HeadRec.{HeadRec}
 use Rattle.record_layouts.specs.declared.proc.ProcRec.{ProcRec}
 use Rattle.record_layouts.specs.declared.sig.SigRec.{SigRec}
@@ -64,7 +65,7 @@ ends_begun s t how pid plan same ends = subst (λ (t : PlantState). EndsTrap (re
 
 -- the head decodes
 pub has_head : (s : PlantState) → IsSound s → is_some (records_held s).head ≡ true
-has_head s sound = sound.held.records.complete.head
+has_head s sound = sound.held.records.complete id.Head tt
 
 -- the process in user mode, as the trap finds it
 pub user_caught : (s : PlantState) → IsSound s → s.in_user ≡ true → IsCaughtIn (records_held s) s.user_pid

@@ -8,6 +8,7 @@ use Rattle.std.proofs.Math.Seq.{drop-length}
 use Rattle.std.proofs.lemmas.Bool.{cases_lt, and_parts, and_cases, eqb-true}
 use Rattle.std.proofs.lemmas.Bool.Decides.{nat_tests}
 use Rattle.ow_base.specs.Lines.{line, spaced, escaped}
+use Rattle.record_layouts.specs.declared.places.RecordId.TheVariants as id
 use Rattle.record_layouts.specs.Report.{status_words, process_line, out_lines, trimmed, kept_before, row_lines, row_line_of, process_lines, head_text, terminal_text, shown_on, report_of}
 use Rattle.record_layouts.specs.Held.{Records}
 use Rattle.record_layouts.specs.Decode.{terminal_by, unix_of}
@@ -226,12 +227,12 @@ processes_complete text exits pid next u v h p = complete text u v (rw (processe
 pub terminal0 : (s : PlantState) → IsSound s → (((unix_at s).terminals 0).tape ≡ s.tty0.tape) × (shown_on ((unix_at s).terminals 0) ≡ s.tty0.display)
 unfolding unix_at unix_of
 terminal0 s sound =
-    terminal_shown (records_held s) 0 s.tty0 ((records_held s).terms 0) (sound.held.records.complete.terms 0 (omega arith)) (sound.terminals.records 0 (omega arith))
+    terminal_shown (records_held s) 0 s.tty0 ((records_held s).terms 0) (sound.held.records.complete (id.Term 0) (omega arith)) (sound.terminals.records 0 (omega arith))
 
 pub terminal1 : (s : PlantState) → IsSound s → (((unix_at s).terminals 1).tape ≡ s.tty1.tape) × (shown_on ((unix_at s).terminals 1) ≡ s.tty1.display)
 unfolding unix_at unix_of
 terminal1 s sound =
-    terminal_shown (records_held s) 1 s.tty1 ((records_held s).terms 1) (sound.held.records.complete.terms 1 (omega arith)) (sound.terminals.records 1 (omega arith))
+    terminal_shown (records_held s) 1 s.tty1 ((records_held s).terms 1) (sound.held.records.complete (id.Term 1) (omega arith)) (sound.terminals.records 1 (omega arith))
 
 -- the Unix counts as the plant does
 pub unix_steps : (s : PlantState) → (unix_at s).steps ≡ s.steps

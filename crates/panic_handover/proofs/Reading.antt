@@ -7,6 +7,7 @@ use Rattle.std.proofs.lemmas.List.Elements.{All-from_get_or, All-get_or}
 use Rattle.std.specs.Bool.{Decides}
 use Rattle.std.specs.List.{list_all}
 use Rattle.ow_base.specs.Seals.{AreWords, seal_of}
+use Rattle.ow_base.proofs.Deciding.{decides_words, reads_none}
 use Rattle.ow_base.specs.declared.machine.Bank.{Bank}
 use Rattle.ow_base.specs.declared.machine.Came.{Came}
 use Rattle.ow_base.specs.declared.machine.Came.TheVariants.{Kernel, User, Call, Closing}
@@ -39,20 +40,6 @@ one_value : (words : List ℕ) (h : HandOver) → IsHandOver words h → h ≡ h
 one_value words h is =
     let came : h.came ≡ came_by (slice_index words 3) = sym (came_back h.came) ∙ ap came_by (sym is.came) in
     grind (arith, is.trap, is.pid, is.pc, is.regs, came)
-
--- a list is below a bound at each place where all of its words are, and behind its end it is 0
-below_at : (bound : ℕ) (words : List ℕ) → 0 < bound → All (λ word. word < bound) words → (k : ℕ) → slice_index words k < bound
-below_at bound words some all k =
-    elim (cases_lt k (length words)) [
-      | inl within ↦ All-get_or (λ word. word < bound) words k 0 within all
-      | inr behind ↦ grind (arith, common_steps)
-    ]
-
-decides_words : (words : List ℕ) → Decides (list_all (λ word. nat_lt word (2 ^ 32)) words) (AreWords words)
-decides_words words =
-    Decides-like _ (below_at (2 ^ 32) words (omega arith)) (λ fits. All-from_get_or (λ word. word < 2 ^ 32) words 0 (λ k within. fits k))
-    (Decides-by_and (λ word. nat_lt word (2 ^ 32)) (λ word. word < 2 ^ 32) (list_all (λ word. nat_lt word (2 ^ 32)))
-    (λ word. Decides-ltb word (2 ^ 32)) refl (λ _ _. refl) words)
 
 decides_zero : (bank : Bank) → Decides (is_zero_bank bank) (bank ≡ zero_bank)
 unfolding is_zero_bank
@@ -120,10 +107,6 @@ hand_over_is words h e = elim (cases_Bool (are_hand_over words)) [
   | inr fails ↦ (let e2 = rw fails at e in cc)
 ]
 
-none_of : (P : HandOver → Type 0) (read : Option HandOver) → ((h : HandOver) → read ≡ Some h → P h) → ((h : HandOver) → P h → ⊥) → None ≡ read
-none_of P (Some h) is none = absurd (none h (is h refl))
-none_of P None is none = refl
-
 -- where no hand-over is spelled none is read
-pub reads_none : (words : List ℕ) → ((h : HandOver) → IsHandOver words h → ⊥) → None ≡ hand_over_in words
-reads_none words none = none_of (IsHandOver words) (hand_over_in words) (hand_over_is words) none
+pub none_read : (words : List ℕ) → ((h : HandOver) → IsHandOver words h → ⊥) → None ≡ hand_over_in words
+none_read words none = reads_none (IsHandOver words) (hand_over_in words) (hand_over_is words) none

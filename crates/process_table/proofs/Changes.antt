@@ -2,10 +2,11 @@
 use Rattle.std.proofs.Common.{◌≡◌, ℕ, ◌<◌, true, nat_lt, Option, Some, IfSome, is_some, inl, inr, refl, sym, ap, subst, ◌∙◌, arith}
 use Rattle.std.proofs.lemmas.Bool.Decides.{nat_tests}
 use Rattle.ow_base.specs.Words.{updated}
+use Rattle.record_layouts.specs.declared.places.RecordId.TheVariants as id
 use Rattle.record_layouts.specs.declared.head.HeadRec.{HeadRec}
 use Rattle.record_layouts.specs.declared.proc.ProcRec.{ProcRec}
 use Rattle.record_layouts.specs.declared.sig.SigRec.{SigRec}
-use Rattle.record_layouts.specs.Held.{Records}
+use Rattle.record_layouts.specs.Held.{AreComplete, AreValues, Records}
 use Rattle.record_layouts.specs.Pages.{is_live}
 use Rattle.record_layouts.specs.Head.{FitsHead}
 use Rattle.record_layouts.specs.Proc.{FitsProc}
@@ -114,37 +115,30 @@ change_numbered r head slot process new sigs trap numbered change =
       ];
     }
 
+change_values : (r : Records) (head : HeadRec) (slot : ℕ) (process new : ProcRec) (sigs : ℕ → Option SigRec) (trap : ℕ) → AreValues r → IsChange r head slot process new sigs
+    → AreValues (changed_records r head slot process new sigs trap)
+change_values r head slot process new sigs trap values change id.Head =
+    served_fits head trap process.pid (subst (λ (h : Option HeadRec). IfSome h FitsHead) change.is_head (values id.Head))
+change_values r head slot process new sigs trap values change (id.Proc k) =
+    held_by_place (λ (p : Option ProcRec). IfSome p FitsProc) r.procs slot (Some new) change.fits (λ other. values (id.Proc other)) k
+change_values r head slot process new sigs trap values change (id.Sig k) = change.signals.values k
+change_values r head slot process new sigs trap values change one = values one
+
+change_complete : (r : Records) (head : HeadRec) (slot : ℕ) (process new : ProcRec) (sigs : ℕ → Option SigRec) (trap : ℕ) → AreComplete r → IsChange r head slot process new sigs
+    → AreComplete (changed_records r head slot process new sigs trap)
+change_complete r head slot process new sigs trap complete change id.Head there = refl
+change_complete r head slot process new sigs trap complete change (id.Proc k) there = filled_by_place r.procs slot new k (complete (id.Proc k) there)
+change_complete r head slot process new sigs trap complete change (id.Sig k) there = change.signals.complete k there
+change_complete r head slot process new sigs trap complete change one there = complete one there
+
 pub change_sound : (r : Records) (head : HeadRec) (slot : ℕ) (process new : ProcRec) (sigs : ℕ → Option SigRec) (trap : ℕ) → AreSound r → IsChange r head slot process new sigs
     → AreSound (changed_records r head slot process new sigs trap)
 change_sound r head slot process new sigs trap sound change =
     let were = all_kin r head slot process new sigs trap change in
     let procs = updated r.procs slot (Some new) in
-    let complete = sound.complete in
-    let values = sound.values in
-    let head_fits : FitsHead head = subst (λ (h : Option HeadRec). IfSome h FitsHead) change.is_head values.head in
     record {
-      complete = record {
-        head = refl;
-        procs = λ k within. filled_by_place r.procs slot new k (complete.procs k within);
-        sigs = change.signals.complete;
-        descs = complete.descs;
-        files = complete.files;
-        caches = complete.caches;
-        terms = complete.terms;
-        rows = complete.rows;
-        exits = complete.exits;
-      };
-      values = record {
-        head = served_fits head trap process.pid head_fits;
-        procs = held_by_place (λ (p : Option ProcRec). IfSome p FitsProc) r.procs slot (Some new) change.fits values.procs;
-        sigs = change.signals.values;
-        descs = values.descs;
-        files = values.files;
-        caches = values.caches;
-        terms = values.terms;
-        rows = values.rows;
-        exits = values.exits;
-      };
+      complete = change_complete r head slot process new sigs trap sound.complete change;
+      values = change_values r head slot process new sigs trap sound.values change;
       numbered = change_numbered r head slot process new sigs trap sound.numbered change;
       in_calls = calls_stay r (Some (served head trap process.pid)) procs sigs r.exits were sound.in_calls;
       mapped = mapped_stay r (Some (served head trap process.pid)) procs sigs r.exits were sound.mapped;

@@ -3,10 +3,13 @@ use Rattle.std.proofs.Common.{◌≡◌, ◌⊎◌, ◌==◌, ℕ, ◌≤◌, tr
 use Rattle.std.proofs.lemmas.Bool.{cases_Bool}
 use Rattle.std.proofs.lemmas.Bool.Decides.{nat_tests}
 use Rattle.ow_base.specs.Words.{updated}
+use Rattle.record_layouts.specs.declared.places.RecordId.TheVariants as id
+use Rattle.record_layouts.specs.declared.patch.AnyRec.TheVariants as any
+use Rattle.record_layouts.proofs.At.{complete_with, values_with}
 use Rattle.record_layouts.specs.declared.head.HeadRec.{HeadRec}
 use Rattle.record_layouts.specs.declared.proc.ProcRec.{ProcRec}
 use Rattle.record_layouts.specs.declared.exit.ExitRec.{ExitRec}
-use Rattle.record_layouts.specs.Held.{Records, AreComplete, AreValues}
+use Rattle.record_layouts.specs.Held.{Records, AreComplete, AreValues, with_record}
 use Rattle.record_layouts.specs.Head.{FitsHead}
 use Rattle.record_layouts.specs.Proc.{FitsProc}
 use Rattle.record_layouts.specs.Exit.{FitsExit}
@@ -31,36 +34,27 @@ served_fits head trap pid fits = record { layout = fits.layout; next_from = fits
 pub ended_values : (r : Records) (head : HeadRec) (slot : ℕ) (process : ProcRec) (status trap : ℕ) → AreValues r → r.head ≡ Some head → IsIn r slot process → IsStatus status
     → AreValues (ended_records r head slot process status trap)
 ended_values r head slot process status trap values is_head is word =
-    let fits : FitsProc process = subst (λ (p : Option ProcRec). IfSome p FitsProc) is.there (values.procs slot) in
-    let head_fits : FitsHead head = subst (λ (h : Option HeadRec). IfSome h FitsHead) is_head values.head in
-    record {
-      head = served_fits head trap process.pid head_fits;
-      procs = held_by_place (λ (p : Option ProcRec). IfSome p FitsProc) r.procs slot (Some (ended_process process status)) (ended_fits process status fits is.live word) values.procs;
-      sigs = values.sigs;
-      descs = values.descs;
-      files = values.files;
-      caches = values.caches;
-      terms = values.terms;
-      rows = values.rows;
-      exits = held_by_place (λ (e : Option ExitRec). IfSome e FitsExit) r.exits process.pid (Some (ended_exit status)) (inr (inr (record { state = refl; status = word }))) values.exits;
-    }
+    let fits : FitsProc process = subst (λ (p : Option ProcRec). IfSome p FitsProc) is.there (values (id.Proc slot)) in
+    let head_fits : FitsHead head = subst (λ (h : Option HeadRec). IfSome h FitsHead) is_head (values id.Head) in
+    let after_head = with_record r id.Head (any.Head (served head trap process.pid)) in
+    let after_process = with_record after_head (id.Proc slot) (any.Proc (ended_process process status)) in
+    values_with after_process (id.Exit process.pid) (any.Exit (ended_exit status))
+    (values_with after_head (id.Proc slot) (any.Proc (ended_process process status))
+    (values_with r id.Head (any.Head (served head trap process.pid)) values tt (served_fits head trap process.pid head_fits))
+    tt (ended_fits process status fits is.live word))
+    tt (inr (inr (record { state = refl; status = word })))
 
 -- a place of a changed function is filled
 pub filled_by_place : {V : Type 0} (f : ℕ → Option V) (place : ℕ) (value : V) (k : ℕ) → is_some (f k) ≡ true → is_some (updated f place (Some value) k) ≡ true
 filled_by_place f place value k old = elim (cases_Bool (k == place)) [ inl same ↦ rw same refl | inr other ↦ rw other old ]
 
 pub ended_complete : (r : Records) (head : HeadRec) (slot : ℕ) (process : ProcRec) (status trap : ℕ) → AreComplete r → AreComplete (ended_records r head slot process status trap)
-ended_complete r head slot process status trap complete = record {
-  head = refl;
-  procs = λ k within. filled_by_place r.procs slot (ended_process process status) k (complete.procs k within);
-  sigs = complete.sigs;
-  descs = complete.descs;
-  files = complete.files;
-  caches = complete.caches;
-  terms = complete.terms;
-  rows = complete.rows;
-  exits = λ pid from to. filled_by_place r.exits process.pid (ended_exit status) pid (complete.exits pid from to);
-}
+ended_complete r head slot process status trap complete =
+    let after_head = with_record r id.Head (any.Head (served head trap process.pid)) in
+    let after_process = with_record after_head (id.Proc slot) (any.Proc (ended_process process status)) in
+    complete_with after_process (id.Exit process.pid) (any.Exit (ended_exit status))
+    (complete_with after_head (id.Proc slot) (any.Proc (ended_process process status))
+    (complete_with r id.Head (any.Head (served head trap process.pid)) complete tt) tt) tt
 
 -- an exit record of one that has ended is that of no live process
 ended_apart : (exit : Option ExitRec) (slot : ℕ) (ended : ExitRec) → slot_by exit ≡ Some slot → exit ≡ Some ended → ended.state ≡ 2 → ⊥

@@ -5,6 +5,7 @@ use Rattle.std.proofs.lemmas.Bool.Decides.{nat_tests}
 use Rattle.ow_base.specs.Sv32.{WordMap}
 use Rattle.ow_base.specs.UserStep.{register}
 use Rattle.ow_base.specs.declared.machine.Now.{Now}
+use Rattle.record_layouts.specs.declared.places.RecordId.TheVariants as id
 use Rattle.record_layouts.specs.declared.proc.ProcRec.{ProcRec}
 use Rattle.record_layouts.specs.declared.sig.SigRec.{SigRec}
 use Rattle.record_layouts.specs.declared.desc.DescRec.{DescRec}
@@ -133,9 +134,9 @@ unfolding description_in
 read_is r words tapes steps traps now slot process d sound is transfer no_file =
     let u = unix_of r words tapes InKernel steps traps in
     let word = slice_index process.descs (register process.regs 10) in
-    let fits : FitsDesc d = subst (λ (o : Option DescRec). IfSome o FitsDesc) transfer.there (sound.values.descs (word - 1)) in
+    let fits : FitsDesc d = subst (λ (o : Option DescRec). IfSome o FitsDesc) transfer.there (sound.values (id.Desc (word - 1))) in
     let tty : IsTty d = is_tty r process d fits transfer no_file in
-    let term = the_record (r.terms d.index) (sound.complete.terms d.index tty.index) in
+    let term = the_record (r.terms d.index) (sound.complete (id.Term d.index) tty.index) in
     let some : (word == 0) ≡ false = zero_not word transfer.named in
     let named : named_by r word ≡ Some d = rw some transfer.there in
     ap (read_goes_on (keys_of now) u) (description_is r words tapes steps traps slot process d sound is transfer)
@@ -199,7 +200,7 @@ ended_child_is r words tapes steps traps slot process sound is =
     (λ such.
     let passing : Passing (λ k. is_ended_child process.pid (r.procs k)) 0 16 = such_passing r (is_ended_child process.pid) such in
     let child : Child r process.pid passing.number = ended_child r process.pid passing.number (r.procs passing.number) refl passing.passes in
-    let fits : FitsProc child.process = subst (λ (o : Option ProcRec). IfSome o FitsProc) child.there (sound.values.procs passing.number) in
+    let fits : FitsProc child.process = subst (λ (o : Option ProcRec). IfSome o FitsProc) child.there (sound.values (id.Proc passing.number)) in
     let ended : FitsEnded child.process = fits.ended child.state in
     let place : place_of child.process.pid ≡ Some passing.number = ended_place r passing.number child.process sound.numbered passing.to child.there child.state in
     let live : is_some (ps child.process.parent) ≡ true =

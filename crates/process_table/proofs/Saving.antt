@@ -4,6 +4,7 @@ use Rattle.std.proofs.lemmas.Bool.Decides.{nat_tests}
 use Rattle.ow_base.specs.Sv32.{WordMap}
 use Rattle.ow_base.specs.Words.{updated}
 use Rattle.ow_base.specs.declared.machine.Bank.{Bank}
+use Rattle.record_layouts.specs.declared.places.RecordId.TheVariants as id
 use Rattle.record_layouts.specs.declared.head.HeadRec.{HeadRec}
 use Rattle.record_layouts.specs.declared.proc.ProcRec.{ProcRec}
 use Rattle.record_layouts.specs.Unix.{Process}
@@ -30,8 +31,8 @@ pub same_signals : (r : Records) (slot : ℕ) (process : ProcRec) → AreSound r
 same_signals r slot process sound is = record {
   here = sound.numbered.signals slot process is;
   elsewhere = λ k apart. refl;
-  values = sound.values.sigs;
-  complete = sound.complete.sigs;
+  values = λ k. sound.values (id.Sig k);
+  complete = λ k. sound.complete (id.Sig k);
 }
 
 saved_kin : (process : ProcRec) (bank : Bank) → is_live process ≡ true → process.state ≡ 1 → IsKin process (saved_process process bank)
@@ -58,7 +59,7 @@ saved_fits process bank fits live out =
 pub saved_change : (r : Records) (head : HeadRec) (slot : ℕ) (process : ProcRec) (bank : Bank) → AreSound r → r.head ≡ Some head → IsIn r slot process → process.state ≡ 1
     → IsChange r head slot process (saved_process process bank) r.sigs
 saved_change r head slot process bank sound is_head is out =
-    let fits : FitsProc process = subst (λ (p : Option ProcRec). IfSome p FitsProc) is.there (sound.values.procs slot) in
+    let fits : FitsProc process = subst (λ (p : Option ProcRec). IfSome p FitsProc) is.there (sound.values (id.Proc slot)) in
     record {
       is_head = is_head;
       is = is;

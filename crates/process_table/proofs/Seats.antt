@@ -1,8 +1,9 @@
 -- Which pid is in which slot, and how a live process decodes.
-use Rattle.std.proofs.Common.{◌≡◌, ◌⊎◌, ◌==◌, ℕ, ◌≤◌, true, false, Option, Some, None, is_some, inl, inr, refl, ap, subst, arith}
+use Rattle.std.proofs.Common.{◌≡◌, ◌⊎◌, ◌==◌, ℕ, ◌≤◌, true, false, Option, Some, None, IfSome, is_some, inl, inr, refl, ap, subst, arith}
 use Rattle.std.proofs.lemmas.Bool.{cases_Bool}
 use Rattle.std.proofs.lemmas.Bool.Decides.{nat_tests}
 use Rattle.ow_base.specs.Sv32.{WordMap}
+use Rattle.record_layouts.specs.declared.places.RecordId.TheVariants as id
 use Rattle.record_layouts.specs.declared.proc.ProcRec.{ProcRec}
 use Rattle.record_layouts.specs.Held.{Records, AreValues}
 use Rattle.record_layouts.specs.Pages.{is_live, is_mapped}
@@ -16,7 +17,7 @@ use Rattle.process_table.proofs.Ended.{live_fits}
 -- a live process has a pid from 1 to 256
 pub pid_range : (r : Records) (slot : ℕ) (process : ProcRec) → AreValues r → IsIn r slot process → (1 ≤ process.pid) × (process.pid ≤ 256)
 pid_range r slot process values is =
-    let fits : FitsProc process = rw is.there at (values.procs slot) in
+    let fits : FitsProc process = subst (λ (held : Option ProcRec). IfSome held FitsProc) is.there (values (id.Proc slot)) in
     (live_fits process fits is.live).pid
 
 is_this : (slot other : ℕ) (held : Option ℕ) → held ≡ Some other → is_number held slot ≡ (other == slot)
@@ -61,7 +62,7 @@ found_in r words slot process sound is =
     let here : pid_in r slot ≡ Some process.pid = pid_here r slot process sound.values sound.numbered is in
     let exit : slot_by (r.exits process.pid) ≡ Some slot = sound.numbered.exit slot process is in
     let decoded : decodes r slot process.pid process ≡ true =
-    decodes_here r slot process sound.complete.head is.live (sound.mapped.mapped slot process is) in
+    decodes_here r slot process (sound.complete id.Head tt) is.live (sound.mapped.mapped slot process is) in
     let there : r.procs slot ≡ Some process = is.there in
     rw exit (rw here (rw (this_number process.pid) (rw there (rw decoded refl))))
 

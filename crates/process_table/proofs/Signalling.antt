@@ -8,6 +8,7 @@ use Rattle.std.proofs.lemmas.Bool.Decides.{nat_tests}
 use Rattle.ow_base.specs.Sv32.{WordMap}
 use Rattle.ow_base.specs.Words.{updated}
 use Rattle.ow_base.specs.declared.machine.Bank.{Bank}
+use Rattle.record_layouts.specs.declared.places.RecordId.TheVariants as id
 use Rattle.record_layouts.specs.declared.head.HeadRec.{HeadRec}
 use Rattle.record_layouts.specs.declared.proc.ProcRec.{ProcRec}
 use Rattle.record_layouts.specs.declared.sig.SigRec.{SigRec}
@@ -77,12 +78,12 @@ signals_for r slot process signals signal sound is there =
     let both : Some held.0 ≡ Some signals = sym held.1 ∙ there in
     let same : held.0 ≡ signals = cc in
     let pid : signals.pid ≡ process.pid = subst (λ (s : SigRec). s.pid ≡ process.pid) same held.2 in
-    let fits : FitsSig signals = subst (λ (o : Option SigRec). IfSome o FitsSig) there (sound.values.sigs slot) in
+    let fits : FitsSig signals = subst (λ (o : Option SigRec). IfSome o FitsSig) there (sound.values (id.Sig slot)) in
     record {
       here = (without_signal signals signal, set_here r.sigs slot (Some (without_signal signals signal)), pid);
       elsewhere = λ k apart. set_other r.sigs slot (Some (without_signal signals signal)) k apart;
-      values = held_by_place (λ (o : Option SigRec). IfSome o FitsSig) r.sigs slot (Some (without_signal signals signal)) (fewer_fit signals (bit_not w32 (2 ^ signal)) fits) sound.values.sigs;
-      complete = λ k within. filled_by_place r.sigs slot (without_signal signals signal) k (sound.complete.sigs k within);
+      values = held_by_place (λ (o : Option SigRec). IfSome o FitsSig) r.sigs slot (Some (without_signal signals signal)) (fewer_fit signals (bit_not w32 (2 ^ signal)) fits) (λ k. sound.values (id.Sig k));
+      complete = λ k within. filled_by_place r.sigs slot (without_signal signals signal) k (sound.complete (id.Sig k) within);
     }
 
 -- the process with its call ended, outside a call
@@ -145,7 +146,7 @@ signalled_fits process signal handler fits live = elim (cases_Bool (handler == 1
 pub signal_change : (r : Records) (head : HeadRec) (slot : ℕ) (process : ProcRec) (signals : SigRec) (signal handler : ℕ) → AreSound r → r.head ≡ Some head → IsIn r slot process → r.sigs slot ≡ Some signals
     → IsChange r head slot process (signalled_process process signal handler) (updated r.sigs slot (Some (without_signal signals signal)))
 signal_change r head slot process signals signal handler sound is_head is there =
-    let fits : FitsProc process = subst (λ (p : Option ProcRec). IfSome p FitsProc) is.there (sound.values.procs slot) in
+    let fits : FitsProc process = subst (λ (p : Option ProcRec). IfSome p FitsProc) is.there (sound.values (id.Proc slot)) in
     record {
       is_head = is_head;
       is = is;
@@ -335,7 +336,7 @@ left_unix r head slot process signals signal trap words tapes steps traps sound 
     let handler = handler_of signals signal in
     let new = signalled_process process signal handler in
     let made = left_by p signal handler in
-    let fits : FitsSig signals = subst (λ (o : Option SigRec). IfSome o FitsSig) there (sound.values.sigs slot) in
+    let fits : FitsSig signals = subst (λ (o : Option SigRec). IfSome o FitsSig) there (sound.values (id.Sig slot)) in
     let fields = left_is r words slot process signals signal handler is.live there in
     changed_unix r head slot process new (updated r.sigs slot (Some (without_signal signals signal))) trap words tapes InKernel steps traps p made sound
     (signal_change r head slot process signals signal handler sound is_head is there) tt (in_kernel r words tapes steps traps slot process sound is)

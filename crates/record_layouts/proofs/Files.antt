@@ -1,5 +1,5 @@
 -- How the record of a file is written, and whether it counts on a disk.
-use Rattle.std.proofs.Common.{◌≡◌, ℕ, ◌<◌, Bool, false, IsTrue, ◌∙◌, ap, sym, refl, arith, inl, inr, List, [], ◌∷◌, ◌++◌, length, slice_index, slice_set, take, drop, replicate, All, Option, Some, None}
+use Rattle.std.proofs.Common.{◌≡◌, ℕ, ◌<◌, Bool, false, IsTrue, ◌∙◌, ap, sym, refl, arith, inl, inr, List, [], ◌∷◌, ◌++◌, length, slice_index, slice_set, take, drop, replicate, All, Some, None}
 use Rattle.std.proofs.lemmas.Bool.{cases_Bool}
 use Rattle.std.proofs.lemmas.Grind.{common_steps}
 use Rattle.ow_base.specs.Seals.{AreWords, seal_of, sealed}

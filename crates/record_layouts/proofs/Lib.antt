@@ -3,6 +3,7 @@
 -- of the records of an area.
 pub mod Records
 pub mod Reading
+pub mod At
 pub mod Seam
 pub mod Stores
 pub mod Parts

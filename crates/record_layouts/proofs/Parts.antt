@@ -1,7 +1,7 @@
 -- Parts of a list of words, when other parts of it are written.
-use Rattle.std.proofs.Common.{◌≡◌, ℕ, ◌+◌, ◌-◌, ◌<◌, ◌≤◌, ◌∙◌, sym, ap, arith, List, length, take, drop, get_or, set, length-set, get_or-set_same, get_or-set_other}
+use Rattle.std.proofs.Common.{◌≡◌, ℕ, ◌+◌, ◌-◌, ◌<◌, ◌≤◌, ◌∙◌, sym, ap, arith, List, length, take, drop, get_or}
 use Rattle.std.proofs.lemmas.List.{get_or-take, get_or-drop, drop-take, take-take, take-set-le}
-use Rattle.ow_base.specs.Seals.{IsSealed, seal_of, sealed}
+use Rattle.ow_base.specs.Seals.{seal_of, sealed}
 use Rattle.record_layouts.specs.Spelling.{AreZero}
 
 -- what two lists have in common that begin alike
@@ -32,13 +32,3 @@ pub before_seal : (words : List ℕ) (end : ℕ) → length words ≡ end + 1 �
 before_seal words end long =
     let place : length words - 1 ≡ end = omega arith in
     rw place (take-set-le end words end (seal_of words) (omega arith))
-
--- and makes the seal right
-pub sealing : (words : List ℕ) → 2 ≤ length words → IsSealed (sealed words)
-sealing words long =
-    let last = length words - 1 in
-    let value = seal_of words in
-    let same_length = length-set words last value in
-    let first = get_or-set_other words last 0 value 0 (omega arith) in
-    let body = part_before (set words last value) words last 1 (length words - 2) (take-set-le last words last value (omega arith)) (omega arith) in
-    rw (same_length, first, body) (get_or-set_same words last value 0 (omega arith))

@@ -1,42 +1,24 @@
 -- What is laid over an area sets exactly the records that it spells.
-use Rattle.std.proofs.Common.{◌≡◌, ◌≢◌, ℕ, ◌+◌, ◌-◌, ◌*◌, ◌<◌, ◌≤◌, ◌⊎◌, Bool, true, false, if◌then◌else◌, nat_lt, ◌&&◌, List, [], ◌∷◌, All, length, slice_index, Option, Some, None, refl, sym, ◌∙◌, ap, arith, inl, inr}
+use Rattle.std.proofs.Common.{◌≡◌, ◌≢◌, ℕ, ◌+◌, ◌-◌, ◌*◌, ◌<◌, ◌≤◌, ◌⊎◌, true, false, if◌then◌else◌, nat_lt, ◌&&◌, List, [], ◌∷◌, All, length, slice_index, Option, None, refl, sym, ◌∙◌, ap, subst, arith, inl, inr}
 use Rattle.std.proofs.lemmas.Grind.{common_steps}
 use Rattle.std.proofs.lemmas.Bool.Decides.{nat_tests}
 use Rattle.std.proofs.lemmas.List.Elements.{All-cons, All-head, All-nil, All-tail}
-use Rattle.std.proofs.lemmas.Bool.{cases_Bool, cases_eq, eq-eqb, lt-ltb, ltb-true, ne_eqb}
-use Rattle.ow_base.specs.Words.{updated}
+use Rattle.std.proofs.lemmas.Bool.{cases_Bool, ltb-true}
 use Rattle.record_layouts.specs.declared.memory_map.MemoryMap.{MemoryMap}
-use Rattle.record_layouts.specs.Spelling.{lies_between}
-use Rattle.record_layouts.specs.Tests.{decides_between}
 use Rattle.record_layouts.specs.Held.{SectorsAre, with_items, with_record}
 use Rattle.record_layouts.specs.declared.patch.AnyRec.{AnyRec}
 use Rattle.record_layouts.specs.declared.patch.PatchItem.{PatchItem}
 use Rattle.record_layouts.specs.Patch.{IsOfKind, IsPatch, IsPatchItem}
 use Rattle.record_layouts.specs.Seam.{AreSpelled, IsSpelled}
 use Rattle.record_layouts.specs.declared.patch.AnyRec.TheVariants as any
-use Rattle.record_layouts.specs.declared.head.HeadRec.{HeadRec}
-use Rattle.record_layouts.specs.Head.{IsHead, head_in}
-use Rattle.record_layouts.specs.declared.proc.ProcRec.{ProcRec}
-use Rattle.record_layouts.specs.Proc.{IsProc, proc_in}
-use Rattle.record_layouts.specs.declared.sig.SigRec.{SigRec}
-use Rattle.record_layouts.specs.Sig.{IsSig, sig_in}
-use Rattle.record_layouts.specs.declared.desc.DescRec.{DescRec}
-use Rattle.record_layouts.specs.Desc.{IsDesc, desc_in}
-use Rattle.record_layouts.specs.declared.file.FileRec.{FileRec}
-use Rattle.record_layouts.specs.File.{IsFile, file_on_disk}
-use Rattle.record_layouts.specs.declared.cache.CacheRec.{CacheRec}
-use Rattle.record_layouts.specs.Cache.{IsCache, cache_in}
-use Rattle.record_layouts.specs.declared.term.TermRec.{TermRec}
-use Rattle.record_layouts.specs.Term.{IsTerm, term_in}
-use Rattle.record_layouts.specs.declared.row.RowRec.{RowRec}
-use Rattle.record_layouts.specs.Row.{IsRow, row_in}
-use Rattle.record_layouts.specs.declared.exit.ExitRec.{ExitRec}
-use Rattle.record_layouts.specs.Exit.{IsExit, exit_in}
 use Rattle.record_layouts.specs.declared.places.RecordId.{RecordId}
 use Rattle.record_layouts.specs.declared.places.RecordId.TheVariants as id
-use Rattle.record_layouts.specs.Places.{AreApart, IsRecordId, first_word, length_of}
+use Rattle.record_layouts.specs.Places.{AreApart, IsRecordId, first_word, is_id, length_of}
 use Rattle.record_layouts.specs.Overlay.{Area, WordRange, begin_of, end_of, IsAllowed, laid, lies_in, may_change, words_from}
-use Rattle.record_layouts.specs.Reading.{records_in, words_of}
+use Rattle.record_layouts.specs.Reading.{is_read, record_in, records_in, words_of}
+use Rattle.record_layouts.specs.Values.{at_read}
+use Rattle.record_layouts.specs.At.{RecOf, at, fitted, is_same, read_as}
+use Rattle.record_layouts.proofs.At.{at_with, cache_owners_with, is_id-decides, is_same-decides, map_with, owners_with, same_records, same_where, table_words_with}
 use Rattle.record_layouts.proofs.Files.{on_disk}
 use Rattle.record_layouts.proofs.Intents.{lies_beside, words_from-same}
 use Rattle.record_layouts.proofs.Ranges.{words_from-each}
@@ -69,11 +51,6 @@ module _ (area : Area) (range : WordRange) where
   words_apart first count (inr behind) = words_from-same _ _ first count
       (λ number low high. beside_range number (inl (omega arith)))
 
--- the record of a kind with this number, where there is such a one
-abbrev pub read_at : {A : Type 0} → (read : List ℕ → Option A) (kind : ℕ → RecordId) (test : ℕ → Bool) → Area → ℕ
-    → Option A
-read_at read kind test area i = if test i then read (words_of area (kind i)) else None
-
 module _ (area : Area) (range : WordRange) (one : RecordId) (there : IsRecordId one)
     (begin : begin_of range ≡ first_word one) (long : length range.words ≡ length_of one) where
   own_words : words_of (with_range area range) one ≡ range.words
@@ -88,34 +65,10 @@ module _ (area : Area) (range : WordRange) (one : RecordId) (there : IsRecordId 
         | inr behind ↦ words_apart area range (first_word other) (length_of other) (inr (omega arith))
       ]
 
-  -- the records of a kind: none changes where the range is of another kind, and else one
-  module _ {A : Type 0} (read : List ℕ → Option A) (kind : ℕ → RecordId) (test : ℕ → Bool)
-      (valid : (i : ℕ) → test i ≡ true → IsRecordId (kind i)) where
-    same_at : (i : ℕ) → one ≢ kind i → read_at read kind test (with_range area range) i ≡ read_at read kind test area i
-    same_at i differ =
-        elim (cases_Bool (test i)) [
-          | inl holds ↦ rw holds (ap read (other_words (kind i) (valid i holds) differ))
-          | inr fails ↦ rw fails refl
-        ]
-
-    set_at : (index : ℕ) (value : A) → one ≡ kind index → ((i : ℕ) → (i ≡ index → ⊥) → one ≢ kind i) → test index ≡ true
-        → read range.words ≡ Some value → (i : ℕ) → read_at read kind test (with_range area range) i
-        ≡ updated (read_at read kind test area) index (Some value) i
-    set_at index value is others holds reads i =
-        elim (cases_eq i index) [
-          | inl same ↦ rw (same, holds, eq-eqb index index refl) (ap read (rw (← is) own_words) ∙ reads)
-          | inr other ↦ rw (ne_eqb i index other) (same_at i (others i other))
-        ]
-
   -- words that no intent changes
   beside_records : (number : ℕ) → IsAllowed range → may_change number (number + 1) ≡ false
       → with_range area range number ≡ area number
   beside_records number allowed stays = rw (lies_beside (begin_of range) (end_of range) number allowed.changes stays) refl
-
-pub same_where : (test : Bool) (some other : ℕ) → (test ≡ true → some ≡ other) → (if test then some else 0)
-    ≡ (if test then other else 0)
-same_where true some other same = same refl
-same_where false some other same = refl
 
 -- the words of frame 10, and of those from 12 on, stay
 pub stays : (number : ℕ) → ((10240 ≤ number) × (number < 11264)) ⊎ (12288 ≤ number) → may_change number (number + 1)
@@ -127,62 +80,10 @@ module _ (map : MemoryMap) (room : map.user_frames ≤ 384) (area : Area) (range
     (there : IsRecordId one)
     (begin : begin_of range ≡ first_word one) (long : length range.words ≡ length_of one)
     (allowed : IsAllowed range) where
-  same_head : one ≢ id.Head → (records_in map true (with_range area range)).head ≡ (records_in map true area).head
-  unfolding records_in
-  same_head differ = ap head_in (other_words area range one there begin long id.Head tt differ)
-
-  same_procs : ((i : ℕ) → one ≢ id.Proc i) → (i : ℕ) → (records_in map true (with_range area range)).procs i
-      ≡ (records_in map true area).procs i
-  unfolding records_in
-  same_procs differ i = same_at area range one there begin long proc_in (λ i. id.Proc i) (λ i. nat_lt i 16)
-      (λ i holds. ltb-true i 16 holds) i (differ i)
-
-  same_sigs : ((i : ℕ) → one ≢ id.Sig i) → (i : ℕ) → (records_in map true (with_range area range)).sigs i
-      ≡ (records_in map true area).sigs i
-  unfolding records_in
-  same_sigs differ i = same_at area range one there begin long sig_in (λ i. id.Sig i) (λ i. nat_lt i 16)
-      (λ i holds. ltb-true i 16 holds) i (differ i)
-
-  same_descs : ((i : ℕ) → one ≢ id.Desc i) → (i : ℕ) → (records_in map true (with_range area range)).descs i
-      ≡ (records_in map true area).descs i
-  unfolding records_in
-  same_descs differ i = same_at area range one there begin long desc_in (λ i. id.Desc i) (λ i. nat_lt i 32)
-      (λ i holds. ltb-true i 32 holds) i (differ i)
-
-  same_files : ((i : ℕ) → one ≢ id.File i) → (i : ℕ) → (records_in map true (with_range area range)).files i
-      ≡ (records_in map true area).files i
-  unfolding records_in
-  same_files differ i = same_at area range one there begin long (file_on_disk map.sectors) (λ i. id.File i) (λ i. nat_lt i 32)
-      (λ i holds. ltb-true i 32 holds) i (differ i)
-
-  same_caches : ((i : ℕ) → one ≢ id.Cache i) → (i : ℕ) → (records_in map true (with_range area range)).caches i
-      ≡ (records_in map true area).caches i
-  unfolding records_in
-  same_caches differ i = same_at area range one there begin long cache_in (λ i. id.Cache i) (λ i. nat_lt i 64)
-      (λ i holds. ltb-true i 64 holds) i (differ i)
-
-  same_terms : ((i : ℕ) → one ≢ id.Term i) → (i : ℕ) → (records_in map true (with_range area range)).terms i
-      ≡ (records_in map true area).terms i
-  unfolding records_in
-  same_terms differ i = same_at area range one there begin long term_in (λ i. id.Term i) (λ i. nat_lt i 2)
-      (λ i holds. ltb-true i 2 holds) i (differ i)
-
-  same_rows : ((i : ℕ) → one ≢ id.Row i) → (i : ℕ) → (records_in map true (with_range area range)).rows i
-      ≡ (records_in map true area).rows i
-  unfolding records_in
-  same_rows differ i = same_at area range one there begin long row_in (λ i. id.Row i) (λ i. nat_lt i 48)
-      (λ i holds. ltb-true i 48 holds) i (differ i)
-
-  same_exits : ((i : ℕ) → one ≢ id.Exit i) → (i : ℕ) → (records_in map true (with_range area range)).exits i
-      ≡ (records_in map true area).exits i
-  unfolding records_in
-  same_exits differ i = same_at area range one there begin long exit_in (λ i. id.Exit i) (λ i. lies_between 1 256 i)
-      (λ i holds. (decides_between 1 256 i).0 holds) i (differ i)
-
   same_owners : (i : ℕ) → (records_in map true (with_range area range)).owners i ≡ (records_in map true area).owners i
   unfolding records_in
   same_owners i =
-      same_where (nat_lt i map.user_frames) _ _
+      same_where 0 (nat_lt i map.user_frames) _ _
       (λ holds. let less = ltb-true i map.user_frames holds in
       beside_records area range one there begin long (10240 + i) allowed
       (stays (10240 + i) (inl (omega arith, omega arith))))
@@ -191,7 +92,7 @@ module _ (map : MemoryMap) (room : map.user_frames ≤ 384) (area : Area) (range
       ≡ (records_in map true area).cache_owners i
   unfolding records_in
   same_cache_owners i =
-      same_where (nat_lt i 64) _ _
+      same_where 0 (nat_lt i 64) _ _
       (λ holds. let less = ltb-true i 64 holds in
       beside_records area range one there begin long (11200 + i) allowed
       (stays (11200 + i) (inl (omega arith, omega arith))))
@@ -200,247 +101,67 @@ module _ (map : MemoryMap) (room : map.user_frames ≤ 384) (area : Area) (range
       ≡ (records_in map true area).table_words slot table word
   unfolding records_in
   same_table_words slot table word =
-      same_where (nat_lt slot 16 && nat_lt table 3 && nat_lt word 1024) _ _
+      same_where 0 (nat_lt slot 16 && nat_lt table 3 && nat_lt word 1024) _ _
       (λ holds. beside_records area range one there begin long (1024 * (16 + 3 * slot + table) + word) allowed
       (stays (1024 * (16 + 3 * slot + table) + word) (inr (omega arith))))
 
+-- what words that spell a record are read as
+spelled_read : (sectors : ℕ) (one : RecordId) (rec : AnyRec) (words : List ℕ) → IsOfKind one rec → IsSpelled rec words
+    → SectorsAre sectors rec → read_as sectors one words ≡ fitted one rec
+spelled_read sectors id.Head (any.Head head) words kind is on_disk = head_read words head is
+spelled_read sectors (id.Proc slot) (any.Proc process) words kind is on_disk = proc_read words process is
+spelled_read sectors (id.Sig slot) (any.Sig signals) words kind is on_disk = sig_read words signals is
+spelled_read sectors (id.Desc index) (any.Desc description) words kind is on_disk = desc_read words description is
+spelled_read sectors (id.File index) (any.File file) words kind is sectors_are = on_disk sectors words file (file_read words file is) sectors_are
+spelled_read sectors (id.Cache index) (any.Cache entry) words kind is on_disk = cache_read words entry is
+spelled_read sectors (id.Term tty) (any.Term terminal) words kind is on_disk = term_read words terminal is
+spelled_read sectors (id.Row index) (any.Row row) words kind is on_disk = row_read words row is
+spelled_read sectors (id.Exit pid) (any.Exit exit) words kind is on_disk = exit_read words exit is
+spelled_read sectors one rec words kind is on_disk = absurd kind
+
+-- in an area that is readable, each record of the layout is looked for
+looked_for : (one : RecordId) → is_read true one ≡ is_id one
+looked_for one = grind (arith, common_steps)
+
 -- so a range that spells a record sets this record, and no other
-module _ (map : MemoryMap) (room : map.user_frames ≤ 384) (area : Area) (range : WordRange)
-    (allowed : IsAllowed range) where
-  set_head : begin_of range ≡ first_word id.Head → length range.words ≡ length_of id.Head → (head : HeadRec)
-      → IsHead range.words head
-      → records_in map true (with_range area range) ≡ with_record (records_in map true area) id.Head (any.Head head)
-  unfolding records_in
-  set_head begin long head is = λ j. record {
-    map = map;
-    head = (ap head_in (own_words area range id.Head tt begin long) ∙ head_read range.words head is) j;
-    procs = λ i. same_procs map room area range id.Head tt begin long allowed (λ i e. cc) i j;
-    sigs = λ i. same_sigs map room area range id.Head tt begin long allowed (λ i e. cc) i j;
-    descs = λ i. same_descs map room area range id.Head tt begin long allowed (λ i e. cc) i j;
-    files = λ i. same_files map room area range id.Head tt begin long allowed (λ i e. cc) i j;
-    caches = λ i. same_caches map room area range id.Head tt begin long allowed (λ i e. cc) i j;
-    terms = λ i. same_terms map room area range id.Head tt begin long allowed (λ i e. cc) i j;
-    rows = λ i. same_rows map room area range id.Head tt begin long allowed (λ i e. cc) i j;
-    exits = λ i. same_exits map room area range id.Head tt begin long allowed (λ i e. cc) i j;
-    owners = λ i. same_owners map room area range id.Head tt begin long allowed i j;
-    cache_owners = λ i. same_cache_owners map room area range id.Head tt begin long allowed i j;
-    table_words = λ s t w. same_table_words map room area range id.Head tt begin long allowed s t w j;
-  }
+module _ (map : MemoryMap) (room : map.user_frames ≤ 384) (area : Area) (range : WordRange) (one : RecordId) (rec : AnyRec)
+    (there : IsRecordId one) (kind : IsOfKind one rec)
+    (begin : begin_of range ≡ first_word one) (long : length range.words ≡ length_of one) (allowed : IsAllowed range)
+    (spelled : IsSpelled rec range.words) (sectors : SectorsAre map.sectors rec) where
+  own_read : record_in map true (with_range area range) one ≡ fitted one rec
+  own_read =
+      rw (looked_for one, (is_id-decides one).1 there, own_words area range one there begin long)
+      (spelled_read map.sectors one rec range.words kind spelled sectors)
 
-  set_proc : (slot : ℕ) → IsRecordId (id.Proc slot) → begin_of range ≡ first_word (id.Proc slot) → length range.words
-      ≡ length_of (id.Proc slot) → (process : ProcRec) → IsProc range.words process
-      → records_in map true (with_range area range) ≡ with_record (records_in map true area) (id.Proc slot)
-      (any.Proc process)
-  unfolding records_in
-  set_proc slot there begin long process is = λ j. record {
-    map = map;
-    head = same_head map room area range (id.Proc slot) there begin long allowed (λ e. cc) j;
-    procs = λ i. set_at area range (id.Proc slot) there begin long proc_in (λ i. id.Proc i) (λ i. nat_lt i 16)
-        (λ i holds. ltb-true i 16 holds) slot process refl
-        (λ i other e. other (cc)) (lt-ltb slot 16 there) (proc_read range.words process is) i j;
-    sigs = λ i. same_sigs map room area range (id.Proc slot) there begin long allowed (λ i e. cc) i j;
-    descs = λ i. same_descs map room area range (id.Proc slot) there begin long allowed (λ i e. cc) i j;
-    files = λ i. same_files map room area range (id.Proc slot) there begin long allowed (λ i e. cc) i j;
-    caches = λ i. same_caches map room area range (id.Proc slot) there begin long allowed (λ i e. cc) i j;
-    terms = λ i. same_terms map room area range (id.Proc slot) there begin long allowed (λ i e. cc) i j;
-    rows = λ i. same_rows map room area range (id.Proc slot) there begin long allowed (λ i e. cc) i j;
-    exits = λ i. same_exits map room area range (id.Proc slot) there begin long allowed (λ i e. cc) i j;
-    owners = λ i. same_owners map room area range (id.Proc slot) there begin long allowed i j;
-    cache_owners = λ i. same_cache_owners map room area range (id.Proc slot) there begin long allowed i j;
-    table_words = λ s t w. same_table_words map room area range (id.Proc slot) there begin long allowed s t w j;
-  }
+  other_read : (other : RecordId) → one ≢ other → record_in map true (with_range area range) other ≡ record_in map true area other
+  other_read other differ = rw (looked_for other) (same_where None (is_id other) _ _
+      (λ holds. ap (read_as map.sectors other)
+      (other_words area range one there begin long other ((is_id-decides other).0 holds) differ)))
 
-  set_sig : (slot : ℕ) → IsRecordId (id.Sig slot) → begin_of range ≡ first_word (id.Sig slot) → length range.words
-      ≡ length_of (id.Sig slot) → (signals : SigRec) → IsSig range.words signals
-      → records_in map true (with_range area range) ≡ with_record (records_in map true area) (id.Sig slot)
-      (any.Sig signals)
-  unfolding records_in
-  set_sig slot there begin long signals is = λ j. record {
-    map = map;
-    head = same_head map room area range (id.Sig slot) there begin long allowed (λ e. cc) j;
-    procs = λ i. same_procs map room area range (id.Sig slot) there begin long allowed (λ i e. cc) i j;
-    sigs = λ i. set_at area range (id.Sig slot) there begin long sig_in (λ i. id.Sig i) (λ i. nat_lt i 16)
-        (λ i holds. ltb-true i 16 holds) slot signals refl
-        (λ i other e. other (cc)) (lt-ltb slot 16 there) (sig_read range.words signals is) i j;
-    descs = λ i. same_descs map room area range (id.Sig slot) there begin long allowed (λ i e. cc) i j;
-    files = λ i. same_files map room area range (id.Sig slot) there begin long allowed (λ i e. cc) i j;
-    caches = λ i. same_caches map room area range (id.Sig slot) there begin long allowed (λ i e. cc) i j;
-    terms = λ i. same_terms map room area range (id.Sig slot) there begin long allowed (λ i e. cc) i j;
-    rows = λ i. same_rows map room area range (id.Sig slot) there begin long allowed (λ i e. cc) i j;
-    exits = λ i. same_exits map room area range (id.Sig slot) there begin long allowed (λ i e. cc) i j;
-    owners = λ i. same_owners map room area range (id.Sig slot) there begin long allowed i j;
-    cache_owners = λ i. same_cache_owners map room area range (id.Sig slot) there begin long allowed i j;
-    table_words = λ s t w. same_table_words map room area range (id.Sig slot) there begin long allowed s t w j;
-  }
+  each_read : (other : RecordId) → record_in map true (with_range area range) other
+      ≡ (if is_same other one then fitted other rec else record_in map true area other)
+  each_read other = elim (cases_Bool (is_same other one)) [
+    | inl same ↦ rw same (subst (λ (q : RecordId). record_in map true (with_range area range) q ≡ fitted q rec)
+        (sym ((is_same-decides other one).0 same)) own_read)
+    | inr fails ↦ rw fails (other_read other (λ same. let yes = (is_same-decides other one).1 (sym same) in cc))
+  ]
 
-  set_desc : (index : ℕ) → IsRecordId (id.Desc index) → begin_of range ≡ first_word (id.Desc index)
-      → length range.words ≡ length_of (id.Desc index) → (description : DescRec) → IsDesc range.words description
-      → records_in map true (with_range area range) ≡ with_record (records_in map true area) (id.Desc index)
-      (any.Desc description)
-  unfolding records_in
-  set_desc index there begin long description is = λ j. record {
-    map = map;
-    head = same_head map room area range (id.Desc index) there begin long allowed (λ e. cc) j;
-    procs = λ i. same_procs map room area range (id.Desc index) there begin long allowed (λ i e. cc) i j;
-    sigs = λ i. same_sigs map room area range (id.Desc index) there begin long allowed (λ i e. cc) i j;
-    descs = λ i. set_at area range (id.Desc index) there begin long desc_in (λ i. id.Desc i) (λ i. nat_lt i 32)
-        (λ i holds. ltb-true i 32 holds) index description refl
-        (λ i other e. other (cc)) (lt-ltb index 32 there) (desc_read range.words description is) i j;
-    files = λ i. same_files map room area range (id.Desc index) there begin long allowed (λ i e. cc) i j;
-    caches = λ i. same_caches map room area range (id.Desc index) there begin long allowed (λ i e. cc) i j;
-    terms = λ i. same_terms map room area range (id.Desc index) there begin long allowed (λ i e. cc) i j;
-    rows = λ i. same_rows map room area range (id.Desc index) there begin long allowed (λ i e. cc) i j;
-    exits = λ i. same_exits map room area range (id.Desc index) there begin long allowed (λ i e. cc) i j;
-    owners = λ i. same_owners map room area range (id.Desc index) there begin long allowed i j;
-    cache_owners = λ i. same_cache_owners map room area range (id.Desc index) there begin long allowed i j;
-    table_words = λ s t w. same_table_words map room area range (id.Desc index) there begin long allowed s t w j;
-  }
+  each_set : (other : RecordId) → at (records_in map true (with_range area range)) other
+      ≡ at (with_record (records_in map true area) one rec) other
+  each_set other =
+      at_read map true (with_range area range) other ∙ each_read other
+      ∙ ap (λ (held : Option (RecOf other)). if is_same other one then fitted other rec else held) (sym (at_read map true area other))
+      ∙ sym (at_with (records_in map true area) one rec other kind)
 
-  set_file : (index : ℕ) → IsRecordId (id.File index) → begin_of range ≡ first_word (id.File index)
-      → length range.words ≡ length_of (id.File index) → (file : FileRec) → IsFile range.words file
-      → SectorsAre map.sectors (any.File file)
-      → records_in map true (with_range area range) ≡ with_record (records_in map true area) (id.File index)
-      (any.File file)
+  set_one : records_in map true (with_range area range) ≡ with_record (records_in map true area) one rec
   unfolding records_in
-  set_file index there begin long file is sectors = λ j. record {
-    map = map;
-    head = same_head map room area range (id.File index) there begin long allowed (λ e. cc) j;
-    procs = λ i. same_procs map room area range (id.File index) there begin long allowed (λ i e. cc) i j;
-    sigs = λ i. same_sigs map room area range (id.File index) there begin long allowed (λ i e. cc) i j;
-    descs = λ i. same_descs map room area range (id.File index) there begin long allowed (λ i e. cc) i j;
-    files = λ i. set_at area range (id.File index) there begin long (file_on_disk map.sectors) (λ i. id.File i) (λ i. nat_lt i 32)
-        (λ i holds. ltb-true i 32 holds) index file refl
-        (λ i other e. other (cc)) (lt-ltb index 32 there)
-        (on_disk map.sectors range.words file (file_read range.words file is) sectors) i j;
-    caches = λ i. same_caches map room area range (id.File index) there begin long allowed (λ i e. cc) i j;
-    terms = λ i. same_terms map room area range (id.File index) there begin long allowed (λ i e. cc) i j;
-    rows = λ i. same_rows map room area range (id.File index) there begin long allowed (λ i e. cc) i j;
-    exits = λ i. same_exits map room area range (id.File index) there begin long allowed (λ i e. cc) i j;
-    owners = λ i. same_owners map room area range (id.File index) there begin long allowed i j;
-    cache_owners = λ i. same_cache_owners map room area range (id.File index) there begin long allowed i j;
-    table_words = λ s t w. same_table_words map room area range (id.File index) there begin long allowed s t w j;
-  }
-
-  set_cache : (index : ℕ) → IsRecordId (id.Cache index) → begin_of range ≡ first_word (id.Cache index)
-      → length range.words ≡ length_of (id.Cache index) → (entry : CacheRec) → IsCache range.words entry
-      → records_in map true (with_range area range) ≡ with_record (records_in map true area) (id.Cache index)
-      (any.Cache entry)
-  unfolding records_in
-  set_cache index there begin long entry is = λ j. record {
-    map = map;
-    head = same_head map room area range (id.Cache index) there begin long allowed (λ e. cc) j;
-    procs = λ i. same_procs map room area range (id.Cache index) there begin long allowed (λ i e. cc) i j;
-    sigs = λ i. same_sigs map room area range (id.Cache index) there begin long allowed (λ i e. cc) i j;
-    descs = λ i. same_descs map room area range (id.Cache index) there begin long allowed (λ i e. cc) i j;
-    files = λ i. same_files map room area range (id.Cache index) there begin long allowed (λ i e. cc) i j;
-    caches = λ i. set_at area range (id.Cache index) there begin long cache_in (λ i. id.Cache i) (λ i. nat_lt i 64)
-        (λ i holds. ltb-true i 64 holds) index entry refl
-        (λ i other e. other (cc)) (lt-ltb index 64 there) (cache_read range.words entry is) i j;
-    terms = λ i. same_terms map room area range (id.Cache index) there begin long allowed (λ i e. cc) i j;
-    rows = λ i. same_rows map room area range (id.Cache index) there begin long allowed (λ i e. cc) i j;
-    exits = λ i. same_exits map room area range (id.Cache index) there begin long allowed (λ i e. cc) i j;
-    owners = λ i. same_owners map room area range (id.Cache index) there begin long allowed i j;
-    cache_owners = λ i. same_cache_owners map room area range (id.Cache index) there begin long allowed i j;
-    table_words = λ s t w. same_table_words map room area range (id.Cache index) there begin long allowed s t w j;
-  }
-
-  set_term : (tty : ℕ) → IsRecordId (id.Term tty) → begin_of range ≡ first_word (id.Term tty) → length range.words
-      ≡ length_of (id.Term tty) → (terminal : TermRec) → IsTerm range.words terminal
-      → records_in map true (with_range area range) ≡ with_record (records_in map true area) (id.Term tty)
-      (any.Term terminal)
-  unfolding records_in
-  set_term tty there begin long terminal is = λ j. record {
-    map = map;
-    head = same_head map room area range (id.Term tty) there begin long allowed (λ e. cc) j;
-    procs = λ i. same_procs map room area range (id.Term tty) there begin long allowed (λ i e. cc) i j;
-    sigs = λ i. same_sigs map room area range (id.Term tty) there begin long allowed (λ i e. cc) i j;
-    descs = λ i. same_descs map room area range (id.Term tty) there begin long allowed (λ i e. cc) i j;
-    files = λ i. same_files map room area range (id.Term tty) there begin long allowed (λ i e. cc) i j;
-    caches = λ i. same_caches map room area range (id.Term tty) there begin long allowed (λ i e. cc) i j;
-    terms = λ i. set_at area range (id.Term tty) there begin long term_in (λ i. id.Term i) (λ i. nat_lt i 2)
-        (λ i holds. ltb-true i 2 holds) tty terminal refl
-        (λ i other e. other (cc)) (lt-ltb tty 2 there) (term_read range.words terminal is) i j;
-    rows = λ i. same_rows map room area range (id.Term tty) there begin long allowed (λ i e. cc) i j;
-    exits = λ i. same_exits map room area range (id.Term tty) there begin long allowed (λ i e. cc) i j;
-    owners = λ i. same_owners map room area range (id.Term tty) there begin long allowed i j;
-    cache_owners = λ i. same_cache_owners map room area range (id.Term tty) there begin long allowed i j;
-    table_words = λ s t w. same_table_words map room area range (id.Term tty) there begin long allowed s t w j;
-  }
-
-  set_row : (index : ℕ) → IsRecordId (id.Row index) → begin_of range ≡ first_word (id.Row index) → length range.words
-      ≡ length_of (id.Row index) → (row : RowRec) → IsRow range.words row
-      → records_in map true (with_range area range) ≡ with_record (records_in map true area) (id.Row index) (any.Row row)
-  unfolding records_in
-  set_row index there begin long row is = λ j. record {
-    map = map;
-    head = same_head map room area range (id.Row index) there begin long allowed (λ e. cc) j;
-    procs = λ i. same_procs map room area range (id.Row index) there begin long allowed (λ i e. cc) i j;
-    sigs = λ i. same_sigs map room area range (id.Row index) there begin long allowed (λ i e. cc) i j;
-    descs = λ i. same_descs map room area range (id.Row index) there begin long allowed (λ i e. cc) i j;
-    files = λ i. same_files map room area range (id.Row index) there begin long allowed (λ i e. cc) i j;
-    caches = λ i. same_caches map room area range (id.Row index) there begin long allowed (λ i e. cc) i j;
-    terms = λ i. same_terms map room area range (id.Row index) there begin long allowed (λ i e. cc) i j;
-    rows = λ i. set_at area range (id.Row index) there begin long row_in (λ i. id.Row i) (λ i. nat_lt i 48)
-        (λ i holds. ltb-true i 48 holds) index row refl
-        (λ i other e. other (cc)) (lt-ltb index 48 there) (row_read range.words row is) i j;
-    exits = λ i. same_exits map room area range (id.Row index) there begin long allowed (λ i e. cc) i j;
-    owners = λ i. same_owners map room area range (id.Row index) there begin long allowed i j;
-    cache_owners = λ i. same_cache_owners map room area range (id.Row index) there begin long allowed i j;
-    table_words = λ s t w. same_table_words map room area range (id.Row index) there begin long allowed s t w j;
-  }
-
-  set_exit : (pid : ℕ) → IsRecordId (id.Exit pid) → begin_of range ≡ first_word (id.Exit pid) → length range.words
-      ≡ length_of (id.Exit pid) → (exit : ExitRec) → IsExit range.words exit
-      → records_in map true (with_range area range) ≡ with_record (records_in map true area) (id.Exit pid) (any.Exit exit)
-  unfolding records_in
-  set_exit pid there begin long exit is = λ j. record {
-    map = map;
-    head = same_head map room area range (id.Exit pid) there begin long allowed (λ e. cc) j;
-    procs = λ i. same_procs map room area range (id.Exit pid) there begin long allowed (λ i e. cc) i j;
-    sigs = λ i. same_sigs map room area range (id.Exit pid) there begin long allowed (λ i e. cc) i j;
-    descs = λ i. same_descs map room area range (id.Exit pid) there begin long allowed (λ i e. cc) i j;
-    files = λ i. same_files map room area range (id.Exit pid) there begin long allowed (λ i e. cc) i j;
-    caches = λ i. same_caches map room area range (id.Exit pid) there begin long allowed (λ i e. cc) i j;
-    terms = λ i. same_terms map room area range (id.Exit pid) there begin long allowed (λ i e. cc) i j;
-    rows = λ i. same_rows map room area range (id.Exit pid) there begin long allowed (λ i e. cc) i j;
-    exits = λ i. set_at area range (id.Exit pid) there begin long exit_in (λ i. id.Exit i) (λ i. lies_between 1 256 i)
-        (λ i holds. (decides_between 1 256 i).0 holds) pid exit refl
-        (λ i other e. other (cc)) ((decides_between 1 256 pid).1 there) (exit_read range.words exit is) i j;
-    owners = λ i. same_owners map room area range (id.Exit pid) there begin long allowed i j;
-    cache_owners = λ i. same_cache_owners map room area range (id.Exit pid) there begin long allowed i j;
-    table_words = λ s t w. same_table_words map room area range (id.Exit pid) there begin long allowed s t w j;
-  }
-
-set_one : (map : MemoryMap) → map.user_frames ≤ 384 → (area : Area) (range : WordRange) (one : RecordId) (rec : AnyRec)
-    → IsRecordId one → IsOfKind one rec
-    → begin_of range ≡ first_word one → length range.words ≡ length_of one → IsAllowed range → IsSpelled rec range.words
-    → SectorsAre map.sectors rec
-    → records_in map true (with_range area range) ≡ with_record (records_in map true area) one rec
-set_one map room area range id.Head
-    (any.Head head) there kind begin long allowed is sectors = set_head map room area range allowed begin long head is
-set_one map room area range (id.Proc slot)
-    (any.Proc process) there kind begin long allowed is sectors = set_proc map room area range allowed slot there begin long
-    process is
-set_one map room area range (id.Sig slot)
-    (any.Sig signals) there kind begin long allowed is sectors = set_sig map room area range allowed slot there begin long
-    signals is
-set_one map room area range (id.Desc index)
-    (any.Desc description) there kind begin long allowed is sectors = set_desc map room area range allowed index there begin
-    long description is
-set_one map room area range (id.File index)
-    (any.File file) there kind begin long allowed is sectors = set_file map room area range allowed index there begin long
-    file is sectors
-set_one map room area range (id.Cache index)
-    (any.Cache entry) there kind begin long allowed is sectors = set_cache map room area range allowed index there begin long
-    entry is
-set_one map room area range (id.Term tty)
-    (any.Term terminal) there kind begin long allowed is sectors = set_term map room area range allowed tty there begin long
-    terminal is
-set_one map room area range (id.Row index)
-    (any.Row row) there kind begin long allowed is sectors = set_row map room area range allowed index there begin long row is
-set_one map room area range (id.Exit pid)
-    (any.Exit exit) there kind begin long allowed is sectors = set_exit map room area range allowed pid there begin long exit is
-set_one map room area range other rec there kind begin long allowed is sectors = absurd kind
+  set_one = same_records (records_in map true (with_range area range)) (with_record (records_in map true area) one rec)
+      (sym (map_with (records_in map true area) one rec)) each_set
+      (λ i. same_owners map room area range one there begin long allowed i ∙ sym (owners_with (records_in map true area) one rec i))
+      (λ i. same_cache_owners map room area range one there begin long allowed i
+      ∙ sym (cache_owners_with (records_in map true area) one rec i))
+      (λ slot table word. same_table_words map room area range one there begin long allowed slot table word
+      ∙ sym (table_words_with (records_in map true area) one rec slot table word))
 
 set_items : (map : MemoryMap) → map.user_frames ≤ 384 → (area : Area) (ranges : List WordRange)
     (items : List PatchItem) → All IsPatchItem items → All (λ (item : PatchItem). SectorsAre map.sectors item.rec) items

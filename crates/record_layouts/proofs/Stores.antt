@@ -1,31 +1,21 @@
 -- What stores of single words of an area make of its records: those of the frames of owners and of tables set words of
 -- these, and those of the intent block and of spare frames set none.
-use Rattle.std.proofs.Common.{◌≡◌, ℕ, ◌+◌, ◌*◌, ◌/◌, ◌%◌, ◌<◌, ◌≤◌, ◌⊎◌, Bool, true, false, if◌then◌else◌, nat_lt, ◌==◌, ◌&&◌, List, [], Option, Some, None, refl, ◌∙◌, ap, arith, inl, inr}
+use Rattle.std.proofs.Common.{◌≡◌, ℕ, ◌+◌, ◌*◌, ◌/◌, ◌%◌, ◌<◌, ◌≤◌, ◌⊎◌, Bool, true, false, if◌then◌else◌, nat_lt, ◌==◌, ◌&&◌, List, [], Some, None, refl, sym, ◌∙◌, ap, arith, inl, inr}
 use Rattle.std.proofs.lemmas.Grind.{common_steps}
 use Rattle.std.proofs.lemmas.Bool.{cases_Bool, cases_lt, eq-eqb, le-ltb, lt-ltb, ltb-true, ne_eqb}
 use Rattle.std.proofs.lemmas.Bool.Decides.{nat_tests}
 use Rattle.ow_base.specs.Sv32.{WordMap}
 use Rattle.record_layouts.specs.declared.memory_map.MemoryMap.{MemoryMap}
 use Rattle.record_layouts.specs.declared.places.RecordId.{RecordId}
-use Rattle.record_layouts.specs.declared.places.RecordId.TheVariants as id
 use Rattle.record_layouts.specs.Places.{IsRecordId, first_word, length_of}
 use Rattle.record_layouts.specs.Overlay.{Area, area_at, gate_of, may_change, gate_word, laid, or_none, open_ranges, overlay, WordRange}
-use Rattle.record_layouts.specs.Spelling.{lies_between}
-use Rattle.record_layouts.specs.Tests.{decides_between}
 use Rattle.record_layouts.specs.Held.{with_area_words, with_owner_words, with_table_words}
+use Rattle.record_layouts.specs.At.{at}
+use Rattle.record_layouts.proofs.At.{at_owner_words, at_table_words, same_each, same_records, same_where}
 use Rattle.record_layouts.specs.Reading.{is_readable_gate, records_in, records_of, words_of}
 use Rattle.record_layouts.specs.Seam.{with_frame_words}
-use Rattle.record_layouts.specs.Head.{head_in}
-use Rattle.record_layouts.specs.Proc.{proc_in}
-use Rattle.record_layouts.specs.Sig.{sig_in}
-use Rattle.record_layouts.specs.Desc.{desc_in}
-use Rattle.record_layouts.specs.File.{file_on_disk}
-use Rattle.record_layouts.specs.Cache.{cache_in}
-use Rattle.record_layouts.specs.Term.{term_in}
-use Rattle.record_layouts.specs.Row.{row_in}
-use Rattle.record_layouts.specs.Exit.{exit_in}
 use Rattle.record_layouts.proofs.Intents.{open_ranges-same, overlay-beside, words_from-same}
-use Rattle.record_layouts.proofs.Seam.{read_at, same_where, stays}
+use Rattle.record_layouts.proofs.Seam.{stays}
 
 -- an intent may change each word of a record
 may_change_each : (one : RecordId) → IsRecordId one → (number : ℕ) → first_word one ≤ number
@@ -39,51 +29,9 @@ module _ (some other : Area) (same : (number : ℕ) → may_change number (numbe
   same_words one there = words_from-same some other (first_word one) (length_of one)
       (λ number from to. same number (may_change_each one there number from to))
 
-  same_read : {A : Type 0} (read : List ℕ → Option A) (kind : ℕ → RecordId) (test : ℕ → Bool)
-      → ((i : ℕ) → test i ≡ true → IsRecordId (kind i))
-      → (i : ℕ) → read_at read kind test some i ≡ read_at read kind test other i
-  same_read read kind test valid i =
-      elim (cases_Bool (test i)) [
-        | inl holds ↦ rw holds (ap read (same_words (kind i) (valid i holds)))
-        | inr fails ↦ rw fails refl
-      ]
-
-  same_head_read : (is_readable : Bool) → (if is_readable then head_in (words_of some id.Head) else None)
-      ≡ (if is_readable then head_in (words_of other id.Head) else None)
-  same_head_read is_readable = ap (λ words. if is_readable then head_in words else None) (same_words id.Head tt)
-
-  same_procs : (i : ℕ) → (if nat_lt i 16 then proc_in (words_of some (id.Proc i)) else None)
-      ≡ (if nat_lt i 16 then proc_in (words_of other (id.Proc i)) else None)
-  same_procs = same_read proc_in (λ i. id.Proc i) (λ i. nat_lt i 16) (λ i holds. ltb-true i 16 holds)
-
-  same_sigs : (i : ℕ) → (if nat_lt i 16 then sig_in (words_of some (id.Sig i)) else None)
-      ≡ (if nat_lt i 16 then sig_in (words_of other (id.Sig i)) else None)
-  same_sigs = same_read sig_in (λ i. id.Sig i) (λ i. nat_lt i 16) (λ i holds. ltb-true i 16 holds)
-
-  same_descs : (i : ℕ) → (if nat_lt i 32 then desc_in (words_of some (id.Desc i)) else None)
-      ≡ (if nat_lt i 32 then desc_in (words_of other (id.Desc i)) else None)
-  same_descs = same_read desc_in (λ i. id.Desc i) (λ i. nat_lt i 32) (λ i holds. ltb-true i 32 holds)
-
-  same_files : (sectors i : ℕ) → (if nat_lt i 32 then file_on_disk sectors (words_of some (id.File i)) else None)
-      ≡ (if nat_lt i 32 then file_on_disk sectors (words_of other (id.File i)) else None)
-  same_files sectors = same_read (file_on_disk sectors) (λ i. id.File i) (λ i. nat_lt i 32) (λ i holds. ltb-true i 32 holds)
-
-  same_caches : (i : ℕ) → (if nat_lt i 64 then cache_in (words_of some (id.Cache i)) else None)
-      ≡ (if nat_lt i 64 then cache_in (words_of other (id.Cache i)) else None)
-  same_caches = same_read cache_in (λ i. id.Cache i) (λ i. nat_lt i 64) (λ i holds. ltb-true i 64 holds)
-
-  same_terms : (i : ℕ) → (if nat_lt i 2 then term_in (words_of some (id.Term i)) else None)
-      ≡ (if nat_lt i 2 then term_in (words_of other (id.Term i)) else None)
-  same_terms = same_read term_in (λ i. id.Term i) (λ i. nat_lt i 2) (λ i holds. ltb-true i 2 holds)
-
-  same_rows : (i : ℕ) → (if nat_lt i 48 then row_in (words_of some (id.Row i)) else None)
-      ≡ (if nat_lt i 48 then row_in (words_of other (id.Row i)) else None)
-  same_rows = same_read row_in (λ i. id.Row i) (λ i. nat_lt i 48) (λ i holds. ltb-true i 48 holds)
-
-  same_exits : (i : ℕ) → (if lies_between 1 256 i then exit_in (words_of some (id.Exit i)) else None)
-      ≡ (if lies_between 1 256 i then exit_in (words_of other (id.Exit i)) else None)
-  same_exits = same_read exit_in (λ i. id.Exit i) (λ i. lies_between 1 256 i)
-      (λ i holds. (decides_between 1 256 i).0 holds)
+  same_all : (map : MemoryMap) (is_readable : Bool) (one : RecordId)
+      → at (records_in map is_readable some) one ≡ at (records_in map is_readable other) one
+  same_all map is_readable = same_each map is_readable some other same_words
 
 -- words of which none is of a record, an owner or a table do not count
 pub block_stays : (map : MemoryMap) (is_readable : Bool) (some other : Area)
@@ -98,22 +46,11 @@ block_stays map is_readable some other head rest =
       | inr high ↦ rest number
           (grind (arith, nat_tests))
     ] in
-    λ j. record {
-      map = map;
-      head = same_head_read some other same is_readable j;
-      procs = λ i. same_procs some other same i j;
-      sigs = λ i. same_sigs some other same i j;
-      descs = λ i. same_descs some other same i j;
-      files = λ i. same_files some other same map.sectors i j;
-      caches = λ i. same_caches some other same i j;
-      terms = λ i. same_terms some other same i j;
-      rows = λ i. same_rows some other same i j;
-      exits = λ i. same_exits some other same i j;
-      owners = λ i. ap (λ w. if nat_lt i map.user_frames then w else 0) (rest (10240 + i) (omega arith)) j;
-      cache_owners = λ i. ap (λ w. if nat_lt i 64 then w else 0) (rest (11200 + i) (omega arith)) j;
-      table_words = λ s t w. ap (λ n. if nat_lt s 16 && nat_lt t 3 && nat_lt w 1024 then n else 0)
-          (rest (1024 * (16 + 3 * s + t) + w) (omega arith)) j;
-    }
+    same_records _ _ refl (same_all some other same map is_readable)
+    (λ i. ap (λ w. if nat_lt i map.user_frames then w else 0) (rest (10240 + i) (omega arith)))
+    (λ i. ap (λ w. if nat_lt i 64 then w else 0) (rest (11200 + i) (omega arith)))
+    (λ s t w. ap (λ n. if nat_lt s 16 && nat_lt t 3 && nat_lt w 1024 then n else 0)
+    (rest (1024 * (16 + 3 * s + t) + w) (omega arith)))
 
 -- two ways to ask the same of a slot, a table, a word, their frame and the word's test
 asked_first : (slot table word frame hit : Bool) (some other : ℕ) → (table && word && frame && hit ≡ true → slot ≡ true)
@@ -154,7 +91,7 @@ module _ (area : Area) (frame : ℕ) (hit : ℕ → Bool) (value : ℕ → ℕ) 
 
   owner_stays : (test : Bool) (number : ℕ) → 12 ≤ frame → (test ≡ true → number < 11264)
       → (if test then with_frame_words area frame hit value number else 0) ≡ (if test then area number else 0)
-  owner_stays test number past small = same_where test _ _
+  owner_stays test number past small = same_where 0 test _ _
       (λ holds. other_frame number (λ is. omega (arith, small holds)))
 
   -- and the words of tables
@@ -165,7 +102,7 @@ module _ (area : Area) (frame : ℕ) (hit : ℕ → Bool) (value : ℕ → ℕ) 
       else if nat_lt s 16 && nat_lt t 3 && nat_lt w 1024 then area (1024 * (16 + 3 * s + t) + w) else 0)
   tables_set s t w less =
       let number = 1024 * (16 + 3 * s + t) + w in
-      same_where (nat_lt s 16 && nat_lt t 3 && nat_lt w 1024) _ _
+      same_where 0 (nat_lt s 16 && nat_lt t 3 && nat_lt w 1024) _ _
       (λ holds. let small : w < 1024 = grind (arith, nat_tests) in
       let quotient : number / 1024 ≡ 16 + 3 * s + t = omega arith in
       let rest : number % 1024 ≡ w = omega arith in
@@ -178,84 +115,57 @@ module _ (area : Area) (frame : ℕ) (hit : ℕ → Bool) (value : ℕ → ℕ) 
       (1024 * (16 + 3 * s + t) + w) else 0)
       ≡ (if nat_lt s 16 && nat_lt t 3 && nat_lt w 1024 then area (1024 * (16 + 3 * s + t) + w) else 0)
   table_stays s t w less =
-      same_where (nat_lt s 16 && nat_lt t 3 && nat_lt w 1024) _ _ (λ holds. other_frame (1024 * (16 + 3 * s + t) + w)
+      same_where 0 (nat_lt s 16 && nat_lt t 3 && nat_lt w 1024) _ _ (λ holds. other_frame (1024 * (16 + 3 * s + t) + w)
       (λ is. omega arith))
 
 module _ (map : MemoryMap) (room : map.user_frames ≤ 384) (is_readable : Bool) (area : Area) (frame : ℕ)
     (hit : ℕ → Bool) (value : ℕ → ℕ) where
+  records_stay : (frame ≡ 10) ⊎ (12 ≤ frame) → (one : RecordId)
+      → at (records_in map is_readable (with_frame_words area frame hit value)) one ≡ at (records_in map is_readable area) one
+  records_stay where_it_is = same_all _ area (beside_intents area frame hit value where_it_is) map is_readable
+
+  owners_stay : 12 ≤ frame → (i : ℕ)
+      → (records_in map is_readable (with_frame_words area frame hit value)).owners i ≡ (records_in map is_readable area).owners i
+  unfolding records_in
+  owners_stay past i = owner_stays area frame hit value (nat_lt i map.user_frames) (10240 + i) past
+      (λ holds. let less = ltb-true i map.user_frames holds in omega arith)
+
+  cache_owners_stay : 12 ≤ frame → (i : ℕ)
+      → (records_in map is_readable (with_frame_words area frame hit value)).cache_owners i
+      ≡ (records_in map is_readable area).cache_owners i
+  unfolding records_in
+  cache_owners_stay past i = owner_stays area frame hit value (nat_lt i 64) (11200 + i) past
+      (λ holds. let less = ltb-true i 64 holds in omega arith)
+
   -- the frame of owners
   owner_words_set : frame ≡ 10 → records_in map is_readable (with_frame_words area frame hit value) ≡ with_owner_words
       (records_in map is_readable area) hit value
   unfolding records_in
-  owner_words_set is =
-      let after = with_frame_words area frame hit value in
-      λ j. record {
-        map = map;
-        head = same_head_read after area (beside_intents area frame hit value (inl is)) is_readable j;
-        procs = λ i. same_procs after area (beside_intents area frame hit value (inl is)) i j;
-        sigs = λ i. same_sigs after area (beside_intents area frame hit value (inl is)) i j;
-        descs = λ i. same_descs after area (beside_intents area frame hit value (inl is)) i j;
-        files = λ i. same_files after area (beside_intents area frame hit value (inl is)) map.sectors i j;
-        caches = λ i. same_caches after area (beside_intents area frame hit value (inl is)) i j;
-        terms = λ i. same_terms after area (beside_intents area frame hit value (inl is)) i j;
-        rows = λ i. same_rows after area (beside_intents area frame hit value (inl is)) i j;
-        exits = λ i. same_exits after area (beside_intents area frame hit value (inl is)) i j;
-        owners = λ i. owner_set area frame hit value (nat_lt i map.user_frames) (10240 + i) i
-            (λ holds. let less = ltb-true i map.user_frames holds in omega arith)
-            (λ holds. let less = ltb-true i map.user_frames holds in omega arith) j;
-        cache_owners = λ i. owner_set area frame hit value (nat_lt i 64) (11200 + i) (960 + i)
-            (λ holds. let less = ltb-true i 64 holds in omega arith)
-            (λ holds. let less = ltb-true i 64 holds in omega arith) j;
-        table_words = λ s t w. table_stays area frame hit value s t w (omega arith) j;
-      }
+  owner_words_set is = same_records _ (with_owner_words (records_in map is_readable area) hit value) refl
+      (λ one. records_stay (inl is) one ∙ sym (at_owner_words (records_in map is_readable area) hit value one))
+      (λ i. owner_set area frame hit value (nat_lt i map.user_frames) (10240 + i) i
+      (λ holds. let less = ltb-true i map.user_frames holds in omega arith)
+      (λ holds. let less = ltb-true i map.user_frames holds in omega arith))
+      (λ i. owner_set area frame hit value (nat_lt i 64) (11200 + i) (960 + i)
+      (λ holds. let less = ltb-true i 64 holds in omega arith)
+      (λ holds. let less = ltb-true i 64 holds in omega arith))
+      (λ s t w. table_stays area frame hit value s t w (omega arith))
 
   -- the frames of no records
   spare_words_stay : 12 ≤ frame → frame < 16 → records_in map is_readable (with_frame_words area frame hit value)
       ≡ records_in map is_readable area
   unfolding records_in
-  spare_words_stay past less_frame =
-      let after = with_frame_words area frame hit value in
-      λ j. record {
-        map = map;
-        head = same_head_read after area (beside_intents area frame hit value (inr past)) is_readable j;
-        procs = λ i. same_procs after area (beside_intents area frame hit value (inr past)) i j;
-        sigs = λ i. same_sigs after area (beside_intents area frame hit value (inr past)) i j;
-        descs = λ i. same_descs after area (beside_intents area frame hit value (inr past)) i j;
-        files = λ i. same_files after area (beside_intents area frame hit value (inr past)) map.sectors i j;
-        caches = λ i. same_caches after area (beside_intents area frame hit value (inr past)) i j;
-        terms = λ i. same_terms after area (beside_intents area frame hit value (inr past)) i j;
-        rows = λ i. same_rows after area (beside_intents area frame hit value (inr past)) i j;
-        exits = λ i. same_exits after area (beside_intents area frame hit value (inr past)) i j;
-        owners = λ i. owner_stays area frame hit value (nat_lt i map.user_frames) (10240 + i) past
-            (λ holds. let less = ltb-true i map.user_frames holds in omega arith) j;
-        cache_owners = λ i. owner_stays area frame hit value (nat_lt i 64) (11200 + i) past
-            (λ holds. let less = ltb-true i 64 holds in omega arith) j;
-        table_words = λ s t w. table_stays area frame hit value s t w less_frame j;
-      }
+  spare_words_stay past less_frame = same_records _ _ refl (records_stay (inr past)) (owners_stay past) (cache_owners_stay past)
+      (λ s t w. table_stays area frame hit value s t w less_frame)
 
   -- the frames of tables
   table_words_set : 16 ≤ frame → frame < 64 → records_in map is_readable (with_frame_words area frame hit value)
       ≡ with_table_words (records_in map is_readable area) frame hit value
   unfolding records_in
-  table_words_set past less_frame =
-      let after = with_frame_words area frame hit value in
-      λ j. record {
-        map = map;
-        head = same_head_read after area (beside_intents area frame hit value (inr (omega arith))) is_readable j;
-        procs = λ i. same_procs after area (beside_intents area frame hit value (inr (omega arith))) i j;
-        sigs = λ i. same_sigs after area (beside_intents area frame hit value (inr (omega arith))) i j;
-        descs = λ i. same_descs after area (beside_intents area frame hit value (inr (omega arith))) i j;
-        files = λ i. same_files after area (beside_intents area frame hit value (inr (omega arith))) map.sectors i j;
-        caches = λ i. same_caches after area (beside_intents area frame hit value (inr (omega arith))) i j;
-        terms = λ i. same_terms after area (beside_intents area frame hit value (inr (omega arith))) i j;
-        rows = λ i. same_rows after area (beside_intents area frame hit value (inr (omega arith))) i j;
-        exits = λ i. same_exits after area (beside_intents area frame hit value (inr (omega arith))) i j;
-        owners = λ i. owner_stays area frame hit value (nat_lt i map.user_frames) (10240 + i) (omega arith)
-            (λ holds. let less = ltb-true i map.user_frames holds in omega arith) j;
-        cache_owners = λ i. owner_stays area frame hit value (nat_lt i 64) (11200 + i) (omega arith)
-            (λ holds. let less = ltb-true i 64 holds in omega arith) j;
-        table_words = λ s t w. tables_set area frame hit value s t w less_frame j;
-      }
+  table_words_set past less_frame = same_records _ (with_table_words (records_in map is_readable area) frame hit value) refl
+      (λ one. records_stay (inr (omega arith)) one ∙ sym (at_table_words (records_in map is_readable area) frame hit value one))
+      (owners_stay (omega arith)) (cache_owners_stay (omega arith))
+      (λ s t w. tables_set area frame hit value s t w less_frame)
 
   -- so words of a frame that are set by themselves set those words of the records that they are
   pub area_words_set : (frame ≡ 10) ⊎ (12 ≤ frame) → frame < 64

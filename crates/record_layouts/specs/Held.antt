@@ -1,75 +1,25 @@
 -- What is held: the records of an area that decode, the words of memory that are no records, and the disk. It is the
 -- meaning of a view of records, and of what can change them.
-use Rattle.std.specs.Prelude.{◌≡◌, ℕ, ◌+◌, ◌-◌, ◌*◌, ◌<◌, ◌≤◌, Bool, true, false, nat_lt, not, ◌==◌, ◌&&◌, ◌||◌, if◌then◌else◌, List, [], ◌∷◌, take, All, Option, Some, None, is_some, IfSome}
+use Rattle.std.specs.Prelude.{◌≡◌, ℕ, ◌+◌, ◌-◌, ◌*◌, ◌<◌, Bool, true, false, nat_lt, not, ◌==◌, ◌&&◌, ◌||◌, if◌then◌else◌, List, [], ◌∷◌, take, All, Some, None, is_some, IfSome}
 use Rattle.ow_base.specs.Sv32.{WordMap, word_or_zero}
 use Rattle.ow_base.specs.Words.{updated}
-use Rattle.record_layouts.specs.declared.memory_map.MemoryMap.{MemoryMap}
-use Rattle.record_layouts.specs.declared.head.HeadRec.{HeadRec}
-use Rattle.record_layouts.specs.declared.proc.ProcRec.{ProcRec}
-use Rattle.record_layouts.specs.declared.sig.SigRec.{SigRec}
-use Rattle.record_layouts.specs.declared.desc.DescRec.{DescRec}
-use Rattle.record_layouts.specs.declared.file.FileRec.{FileRec}
-use Rattle.record_layouts.specs.declared.cache.CacheRec.{CacheRec}
-use Rattle.record_layouts.specs.declared.term.TermRec.{TermRec}
-use Rattle.record_layouts.specs.declared.row.RowRec.{RowRec}
-use Rattle.record_layouts.specs.declared.exit.ExitRec.{ExitRec}
 use Rattle.record_layouts.specs.declared.places.RecordId.{RecordId}
 use Rattle.record_layouts.specs.declared.places.RecordId.TheVariants as id
 use Rattle.record_layouts.specs.declared.patch.AnyRec.{AnyRec}
 use Rattle.record_layouts.specs.declared.patch.AnyRec.TheVariants as any
 use Rattle.record_layouts.specs.declared.patch.PatchItem.{PatchItem}
 use Rattle.record_layouts.specs.Patch.{IsPatch}
-use Rattle.record_layouts.specs.Head.{FitsHead}
-use Rattle.record_layouts.specs.Proc.{FitsProc}
-use Rattle.record_layouts.specs.Sig.{FitsSig}
-use Rattle.record_layouts.specs.Desc.{FitsDesc}
-use Rattle.record_layouts.specs.File.{FitsFile}
-use Rattle.record_layouts.specs.Cache.{FitsCache}
-use Rattle.record_layouts.specs.Term.{FitsTerm}
-use Rattle.record_layouts.specs.Row.{FitsRow}
-use Rattle.record_layouts.specs.Exit.{FitsExit}
-
--- The records of an area, none where the words are no record. Processes and signals go by slot, exits by pid, the
--- others by their number; the words that name the owners of frames go by user frame and by cache entry.
-pub record Records : Type 0 where
-  -- where the area, the cache and the user frames are
-  pub map : MemoryMap
-  pub head : Option HeadRec
-  pub procs : ℕ → Option ProcRec
-  pub sigs : ℕ → Option SigRec
-  pub descs : ℕ → Option DescRec
-  pub files : ℕ → Option FileRec
-  pub caches : ℕ → Option CacheRec
-  pub terms : ℕ → Option TermRec
-  pub rows : ℕ → Option RowRec
-  pub exits : ℕ → Option ExitRec
-  pub owners : ℕ → ℕ
-  pub cache_owners : ℕ → ℕ
-  pub table_words : (slot table word : ℕ) → ℕ
+use Rattle.record_layouts.specs.Places.{IsRecordId}
+pub use Rattle.record_layouts.specs.Records.{Records}
+use Rattle.record_layouts.specs.At.{Fits, at}
 
 -- each record is one that can be spelled
-pub record AreValues (r : Records) : Type 0 where
-  pub head : IfSome r.head FitsHead
-  pub procs : (slot : ℕ) → IfSome (r.procs slot) FitsProc
-  pub sigs : (slot : ℕ) → IfSome (r.sigs slot) FitsSig
-  pub descs : (i : ℕ) → IfSome (r.descs i) FitsDesc
-  pub files : (i : ℕ) → IfSome (r.files i) FitsFile
-  pub caches : (i : ℕ) → IfSome (r.caches i) FitsCache
-  pub terms : (tty : ℕ) → IfSome (r.terms tty) FitsTerm
-  pub rows : (i : ℕ) → IfSome (r.rows i) FitsRow
-  pub exits : (pid : ℕ) → IfSome (r.exits pid) FitsExit
+abbrev pub AreValues : Records → Type 0
+AreValues r = (one : RecordId) → IfSome (at r one) (Fits one)
 
 -- every record decodes
-pub record AreComplete (r : Records) : Type 0 where
-  pub head : is_some r.head ≡ true
-  pub procs : (slot : ℕ) → slot < 16 → is_some (r.procs slot) ≡ true
-  pub sigs : (slot : ℕ) → slot < 16 → is_some (r.sigs slot) ≡ true
-  pub descs : (i : ℕ) → i < 32 → is_some (r.descs i) ≡ true
-  pub files : (i : ℕ) → i < 32 → is_some (r.files i) ≡ true
-  pub caches : (i : ℕ) → i < 64 → is_some (r.caches i) ≡ true
-  pub terms : (tty : ℕ) → tty < 2 → is_some (r.terms tty) ≡ true
-  pub rows : (i : ℕ) → i < 48 → is_some (r.rows i) ≡ true
-  pub exits : (pid : ℕ) → 1 ≤ pid → pid ≤ 256 → is_some (r.exits pid) ≡ true
+abbrev pub AreComplete : Records → Type 0
+AreComplete r = (one : RecordId) → IsRecordId one → is_some (at r one) ≡ true
 
 -- what is held, and the rest of what it is held in
 pub record Held (Rest : Type 0) : Type 0 where

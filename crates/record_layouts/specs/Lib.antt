@@ -21,6 +21,8 @@ pub mod Exit
 pub mod Overlay
 pub mod Places
 pub mod Patch
+pub mod Records
+pub mod At
 pub mod Held
 pub mod Pages
 pub mod Decode

@@ -1,8 +1,9 @@
 -- Where the records of an area lie. The words of an area are numbered through its frames: word w of frame f has the
 -- number 1024 * f + w.
-use Rattle.std.specs.Prelude.{ℕ, ◌+◌, ◌-◌, ◌*◌, ◌<◌, ◌≤◌, ◌⊎◌}
+use Rattle.std.specs.Prelude.{ℕ, ◌+◌, ◌-◌, ◌*◌, ◌<◌, ◌≤◌, ◌⊎◌, Bool, true, nat_lt}
 use Rattle.record_layouts.specs.declared.places.RecordId.{RecordId}
 use Rattle.record_layouts.specs.declared.places.RecordId.TheVariants.{Head, Proc, Sig, Desc, File, Cache, Term, Row, Exit}
+use Rattle.record_layouts.specs.Spelling.{lies_between}
 
 -- an area has such a record
 abbrev pub IsRecordId : RecordId → Type 0
@@ -15,6 +16,18 @@ IsRecordId (Cache index) = index < 64
 IsRecordId (Term terminal) = terminal < 2
 IsRecordId (Row index) = index < 48
 IsRecordId (Exit pid) = (1 ≤ pid) × (pid ≤ 256)
+
+-- the same as a test
+abbrev pub is_id : RecordId → Bool
+is_id Head = true
+is_id (Proc slot) = nat_lt slot 16
+is_id (Sig slot) = nat_lt slot 16
+is_id (Desc index) = nat_lt index 32
+is_id (File index) = nat_lt index 32
+is_id (Cache index) = nat_lt index 64
+is_id (Term terminal) = nat_lt terminal 2
+is_id (Row index) = nat_lt index 48
+is_id (Exit pid) = lies_between 1 256 pid
 
 -- how many words it has
 abbrev pub length_of : RecordId → ℕ

@@ -1,24 +1,15 @@
 -- The records of an area, read from its words.
-use Rattle.std.specs.Prelude.{ℕ, ◌+◌, ◌*◌, ◌^◌, ◌≤◌, Bool, true, false, nat_lt, ◌&&◌, if◌then◌else◌, List, None}
+use Rattle.std.specs.Prelude.{ℕ, ◌+◌, ◌*◌, ◌^◌, ◌≤◌, Bool, true, false, nat_lt, ◌&&◌, if◌then◌else◌, List, Option, None}
 use Rattle.ow_base.specs.Sv32.{WordMap}
 use Rattle.record_layouts.specs.declared.memory_map.MemoryMap.{MemoryMap}
 use Rattle.record_layouts.specs.declared.intent.Gate.{Gate}
 use Rattle.record_layouts.specs.declared.intent.Gate.TheVariants.{Closed, Open, Broken}
 use Rattle.record_layouts.specs.declared.places.RecordId.{RecordId}
 use Rattle.record_layouts.specs.declared.places.RecordId.TheVariants.{Head, Proc, Sig, Desc, File, Cache, Term, Row, Exit}
-use Rattle.record_layouts.specs.Places.{first_word, length_of}
+use Rattle.record_layouts.specs.Places.{first_word, is_id, length_of}
 use Rattle.record_layouts.specs.Overlay.{Area, area_at, gate_of, overlay, words_from}
-use Rattle.record_layouts.specs.Spelling.{lies_between}
-use Rattle.record_layouts.specs.Held.{Records}
-use Rattle.record_layouts.specs.Head.{head_in}
-use Rattle.record_layouts.specs.Proc.{proc_in}
-use Rattle.record_layouts.specs.Sig.{sig_in}
-use Rattle.record_layouts.specs.Desc.{desc_in}
-use Rattle.record_layouts.specs.File.{file_on_disk}
-use Rattle.record_layouts.specs.Cache.{cache_in}
-use Rattle.record_layouts.specs.Term.{term_in}
-use Rattle.record_layouts.specs.Row.{row_in}
-use Rattle.record_layouts.specs.Exit.{exit_in}
+use Rattle.record_layouts.specs.Records.{Records}
+use Rattle.record_layouts.specs.At.{RecOf, read_as}
 
 -- the frames of the area, of the cache and of users have numbers of 32 bits, and users have no more than owners can be
 -- named of
@@ -32,22 +23,29 @@ pub record FitsMap (map : MemoryMap) : Type 0 where
 abbrev pub words_of : Area → RecordId → List ℕ
 words_of area id = words_from area (first_word id) (length_of id)
 
--- The records that stand in an area, none behind the last of a kind. The head is read where the area is readable, and a
--- file where its data sectors are on the disk.
--- Frame 10 has the owners of user frames, and from word 960 on those of cache entries; the three tables of each slot
--- stand in the frames from 16 on.
+-- a record of this id is looked for: it is one of the layout's, and the head only in an area that is readable
+abbrev pub is_read : (is_readable : Bool) → RecordId → Bool
+is_read is_readable Head = is_readable
+is_read is_readable one = is_id one
+
+-- the record that stands in an area at its place; a file's data sectors are on the disk
+abbrev pub record_in : MemoryMap → (is_readable : Bool) → Area → (one : RecordId) → Option (RecOf one)
+record_in map is_readable area one = if is_read is_readable one then read_as map.sectors one (words_of area one) else None
+
+-- The records of an area. Frame 10 has the owners of user frames, and from word 960 on those of cache entries; the
+-- three tables of each slot stand in the frames from 16 on.
 unfoldable pub records_in : MemoryMap → (is_readable : Bool) → Area → Records
 records_in map is_readable area = record {
   map = map;
-  head = if is_readable then head_in (words_of area Head) else None;
-  procs = λ slot. if nat_lt slot 16 then proc_in (words_of area (Proc slot)) else None;
-  sigs = λ slot. if nat_lt slot 16 then sig_in (words_of area (Sig slot)) else None;
-  descs = λ i. if nat_lt i 32 then desc_in (words_of area (Desc i)) else None;
-  files = λ i. if nat_lt i 32 then file_on_disk map.sectors (words_of area (File i)) else None;
-  caches = λ i. if nat_lt i 64 then cache_in (words_of area (Cache i)) else None;
-  terms = λ tty. if nat_lt tty 2 then term_in (words_of area (Term tty)) else None;
-  rows = λ i. if nat_lt i 48 then row_in (words_of area (Row i)) else None;
-  exits = λ pid. if lies_between 1 256 pid then exit_in (words_of area (Exit pid)) else None;
+  head = record_in map is_readable area Head;
+  procs = λ slot. record_in map is_readable area (Proc slot);
+  sigs = λ slot. record_in map is_readable area (Sig slot);
+  descs = λ i. record_in map is_readable area (Desc i);
+  files = λ i. record_in map is_readable area (File i);
+  caches = λ i. record_in map is_readable area (Cache i);
+  terms = λ tty. record_in map is_readable area (Term tty);
+  rows = λ i. record_in map is_readable area (Row i);
+  exits = λ pid. record_in map is_readable area (Exit pid);
   owners = λ i. if nat_lt i map.user_frames then area (10 * 1024 + i) else 0;
   cache_owners = λ i. if nat_lt i 64 then area (10 * 1024 + 960 + i) else 0;
   table_words = λ slot table word.

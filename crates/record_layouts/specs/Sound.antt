@@ -1,14 +1,13 @@
 -- What holds of a kernel's records between its turns: each one decodes, and they agree with each other.
-use Rattle.std.specs.Prelude.{◌≡◌, ◌≢◌, ℕ, ◌+◌, ◌-◌, ◌*◌, ◌/◌, ◌%◌, ◌<◌, ◌≤◌, ◌⊎◌, ◌↔◌, Bool, true, false, nat_lt, not, ◌==◌, ◌&&◌, ◌||◌, List, slice_index, Option, Some, None, is_some, IfSome}
+use Rattle.std.specs.Prelude.{◌≡◌, ◌≢◌, ℕ, ◌+◌, ◌-◌, ◌*◌, ◌<◌, ◌≤◌, ◌⊎◌, Bool, true, false, nat_lt, not, ◌==◌, ◌&&◌, ◌||◌, slice_index, Option, Some, None, is_some, IfSome}
 use Rattle.ow_base.specs.UserStep.{register}
-use Rattle.record_layouts.specs.declared.head.HeadRec.{HeadRec}
 use Rattle.record_layouts.specs.declared.proc.ProcRec.{ProcRec}
 use Rattle.record_layouts.specs.declared.sig.SigRec.{SigRec}
 use Rattle.record_layouts.specs.declared.desc.DescRec.{DescRec}
 use Rattle.record_layouts.specs.declared.exit.ExitRec.{ExitRec}
 use Rattle.record_layouts.specs.Held.{Records, AreComplete, AreValues}
 use Rattle.record_layouts.specs.Pages.{is_live, is_mapped, region_of, low_place, high_place}
-use Rattle.record_layouts.specs.Decode.{slot_by, descriptor_of, next_by}
+use Rattle.record_layouts.specs.Decode.{slot_by, next_by}
 
 -- a process that goes on has this slot, by its record
 pub record IsIn (r : Records) (slot : ℕ) (process : ProcRec) : Type 0 where

@@ -1,34 +1,22 @@
 -- The tests by which words are read, and what they decide.
-use Rattle.std.proofs.Common.{◌≡◌, ℕ, ◌+◌, ◌-◌, ◌^◌, ◌<◌, ◌≤◌, Bool, true, nat_lt, ◌==◌, List, length, slice_index, take, drop, get_or, All, Option, Some, None, refl, sym, ◌∙◌, subst, arith, inl, inr}
+use Rattle.std.proofs.Common.{◌≡◌, ℕ, ◌+◌, ◌-◌, ◌^◌, ◌<◌, ◌≤◌, Bool, true, ◌==◌, List, length, slice_index, take, drop, get_or, All, Some, refl, sym, ◌∙◌, subst, arith, inl, inr}
 use Rattle.std.proofs.lemmas.Grind.{common_steps}
 use Rattle.std.proofs.lemmas.Bool.{cases_lt, cases_Bool}
-use Rattle.std.proofs.lemmas.Bool.Decides.{nat_tests, Decides-by_and, Decides-eqb, Decides-like, Decides-ltb}
+use Rattle.std.proofs.lemmas.Bool.Decides.{nat_tests, Decides-by_and, Decides-eqb, Decides-like}
 use Rattle.std.proofs.lemmas.List.Elements.{All-from_get_or, All-get_or}
 use Rattle.std.specs.Bool.{Decides}
 use Rattle.std.specs.List.{list_all}
 use Rattle.ow_base.specs.Seals.{AreWords, IsSealed}
+use Rattle.ow_base.proofs.Deciding as word_tests
 use Rattle.record_layouts.specs.Spelling.{AreZero, IsStatus, are_below, are_zero, is_sealed_record, is_status, lies_between, only_where}
 
 pub decides_below : (bound : ℕ) (words : List ℕ) → Decides (are_below bound words) (All (λ word. word < bound) words)
 unfolding are_below
-decides_below bound words =
-    Decides-by_and (λ word. nat_lt word bound) (λ word. word < bound) (list_all (λ word. nat_lt word bound))
-    (λ word. Decides-ltb word bound) refl (λ _ _. refl) words
-
--- a list is below a bound at each place where all of its words are, and behind its end it is 0
-below_at : (bound : ℕ) (words : List ℕ) → 0 < bound → All (λ word. word < bound) words → (k : ℕ)
-    → slice_index words k < bound
-below_at bound words some all k =
-    elim (cases_lt k (length words)) [
-      | inl within ↦ All-get_or (λ word. word < bound) words k 0 within all
-      | inr behind ↦ grind (arith, common_steps)
-    ]
+decides_below bound words = word_tests.decides_below bound words
 
 pub decides_words : (words : List ℕ) → Decides (are_below (2 ^ 32) words) (AreWords words)
-decides_words words =
-    Decides-like (are_below (2 ^ 32) words) (below_at (2 ^ 32) words (omega arith))
-    (λ fits. All-from_get_or (λ word. word < 2 ^ 32) words 0 (λ k within. fits k))
-    (decides_below (2 ^ 32) words)
+unfolding are_below
+decides_words words = word_tests.decides_words words
 
 part_at : (words : List ℕ) (first end k : ℕ) → k < end - first → get_or (take (end - first) (drop first words)) k 0
     ≡ get_or words (first + k) 0
@@ -101,9 +89,3 @@ module _ {A : Type 0} (P : A → Type 0) (test : Bool) (value : A) (decides : De
     | inl holds ↦ (let same : value ≡ a = (let e2 = rw holds at e in cc) in subst P same (decides.0 holds))
     | inr fails ↦ (let e2 = rw fails at e in cc)
   ]
-
--- where nothing can be read there is nothing
-pub reads_none : {A : Type 0} (P : A → Type 0) (read : Option A) → ((a : A) → read ≡ Some a → P a)
-    → ((a : A) → P a → ⊥) → None ≡ read
-reads_none P (Some a) is none = absurd (none a (is a refl))
-reads_none P None is none = refl

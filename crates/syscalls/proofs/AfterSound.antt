@@ -3,12 +3,15 @@ use Rattle.std.proofs.Common.{◌≡◌, ◌≢◌, ◌⊎◌, ◌==◌, ℕ, �
 use Rattle.std.proofs.lemmas.Bool.Decides.{nat_tests}
 use Rattle.std.proofs.lemmas.Grind.{common_steps}
 use Rattle.ow_base.specs.Words.{updated}
+use Rattle.record_layouts.specs.declared.places.RecordId.TheVariants as id
+use Rattle.record_layouts.specs.declared.patch.AnyRec.TheVariants as any
+use Rattle.record_layouts.proofs.At.{complete_with, values_with}
 use Rattle.record_layouts.specs.declared.head.HeadRec.{HeadRec}
 use Rattle.record_layouts.specs.declared.proc.ProcRec.{ProcRec}
 use Rattle.record_layouts.specs.declared.sig.SigRec.{SigRec}
 use Rattle.record_layouts.specs.declared.desc.DescRec.{DescRec}
 use Rattle.record_layouts.specs.declared.exit.ExitRec.{ExitRec}
-use Rattle.record_layouts.specs.Held.{Records, AreComplete, AreValues}
+use Rattle.record_layouts.specs.Held.{Records, with_record}
 use Rattle.record_layouts.specs.Head.{FitsHead}
 use Rattle.record_layouts.specs.Pages.{is_live, is_mapped, region_of, high_place}
 use Rattle.record_layouts.specs.Proc.{FitsProc}
@@ -16,7 +19,7 @@ use Rattle.record_layouts.specs.Decode.{slot_by, next_by}
 use Rattle.record_layouts.specs.Sound.{IsIn, AreNumbered, AreInCalls, AreMapped, AreSound, IsInCall, IsTransfer, is_table_place}
 use Rattle.process_table.proofs.Changes.{changed_records}
 use Rattle.process_table.proofs.Endings.{served}
-use Rattle.process_table.proofs.EndedSound.{held_by_place, filled_by_place, served_fits, where_held}
+use Rattle.process_table.proofs.EndedSound.{served_fits, where_held}
 use Rattle.process_table.proofs.Kept.{set_here, set_other, same_or_not}
 use Rattle.process_table.proofs.Regions.{SameRegions, mapped_same, mapped_stays, region_same}
 use Rattle.process_table.proofs.Seats.{one_process}
@@ -153,32 +156,13 @@ module _ (r : Records) (head : HeadRec) (slot : ℕ) (process after : ProcRec) (
 
   pub after_sound : AreSound (changed_records r head slot process after r.sigs trap)
   after_sound =
-      let complete = sound.complete in
-      let values = sound.values in
-      let head_fits : FitsHead head = subst (λ (h : Option HeadRec). IfSome h FitsHead) is_head values.head in
+      let head_fits : FitsHead head = subst (λ (h : Option HeadRec). IfSome h FitsHead) is_head (sound.values id.Head) in
+      let after_head = with_record r id.Head (any.Head (served head trap process.pid)) in
       record {
-        complete = record {
-          head = refl;
-          procs = λ k within. filled_by_place r.procs slot after k (complete.procs k within);
-          sigs = complete.sigs;
-          descs = complete.descs;
-          files = complete.files;
-          caches = complete.caches;
-          terms = complete.terms;
-          rows = complete.rows;
-          exits = complete.exits;
-        };
-        values = record {
-          head = served_fits head trap process.pid head_fits;
-          procs = held_by_place (λ (p : Option ProcRec). IfSome p FitsProc) r.procs slot (Some after) fits values.procs;
-          sigs = values.sigs;
-          descs = values.descs;
-          files = values.files;
-          caches = values.caches;
-          terms = values.terms;
-          rows = values.rows;
-          exits = values.exits;
-        };
+        complete = complete_with after_head (id.Proc slot) (any.Proc after)
+            (complete_with r id.Head (any.Head (served head trap process.pid)) sound.complete tt) tt;
+        values = values_with after_head (id.Proc slot) (any.Proc after)
+            (values_with r id.Head (any.Head (served head trap process.pid)) sound.values tt (served_fits head trap process.pid head_fits)) tt fits;
         numbered = numbered_now;
         in_calls = calls_now;
         mapped = mapped_now;

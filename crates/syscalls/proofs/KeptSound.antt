@@ -7,6 +7,7 @@ use Rattle.ow_base.specs.Words.{minus}
 use Rattle.ow_base.specs.UserStep.{register}
 use Rattle.ow_base.specs.Pages.{Pages, is_readable}
 use Rattle.ow_base.specs.declared.machine.Bank.{Bank}
+use Rattle.record_layouts.specs.declared.places.RecordId.TheVariants as id
 use Rattle.record_layouts.specs.declared.head.HeadRec.{HeadRec}
 use Rattle.record_layouts.specs.declared.proc.ProcRec.{ProcRec}
 use Rattle.record_layouts.specs.declared.desc.DescRec.{DescRec}
@@ -71,7 +72,7 @@ module _ (r : Records) (head : HeadRec) (slot : ℕ) (process : ProcRec) (bank :
   saved = saved_process process bank
 
   process_fits : FitsProc process
-  process_fits = subst (λ (held : Option ProcRec). IfSome held FitsProc) is.there (sound.values.procs slot)
+  process_fits = subst (λ (held : Option ProcRec). IfSome held FitsProc) is.there (sound.values (id.Proc slot))
 
   held : FitsLive process
   held = live_fits process process_fits is.live

@@ -3,6 +3,7 @@ use Rattle.std.proofs.Common.{◌≡◌, ◌≢◌, ℕ, zero, suc, ◌-◌, ◌
 use Rattle.std.proofs.lemmas.Bool.{ne_eqb}
 use Rattle.std.proofs.lemmas.Bool.Decides.{eqb_tells}
 use Rattle.ow_base.specs.UserStep.{register}
+use Rattle.record_layouts.specs.declared.places.RecordId.TheVariants as id
 use Rattle.record_layouts.specs.declared.proc.ProcRec.{ProcRec}
 use Rattle.record_layouts.specs.declared.desc.DescRec.{DescRec}
 use Rattle.record_layouts.specs.Desc.{FitsDesc}
@@ -57,7 +58,7 @@ fits_there held d fits is = let P : Option DescRec → Type 0 = λ o. IfSome o F
 
 by_transfer : (r : Records) (process : ProcRec) → AreValues r → (d : DescRec) × IsTransfer r process 2 d → InWrite r process
 by_transfer r process values (d, is) =
-    let fits = fits_there (r.descs (slice_index process.descs (register process.regs 10) - 1)) d (values.descs (slice_index process.descs (register process.regs 10) - 1)) is.there in
+    let fits = fits_there (r.descs (slice_index process.descs (register process.regs 10) - 1)) d (values (id.Desc (slice_index process.descs (register process.regs 10) - 1))) is.there in
     record { description = d; fits = fits; transfer = is; is_named = transfer_names r process d is fits }
 
 transfer_of : (r : Records) (process : ProcRec) → IsInCall r process → process.call ≡ 2 → (d : DescRec) × IsTransfer r process 2 d

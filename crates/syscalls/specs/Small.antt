@@ -4,6 +4,7 @@ use Rattle.std.specs.Prelude.{nat_le}
 use Rattle.std.proofs.lemmas.Bool.{cases_Bool}
 use Rattle.std.proofs.lemmas.List.{get_or-replicate}
 use Rattle.std.proofs.lemmas.Grind.{common_steps}
+use Rattle.record_layouts.specs.declared.places.RecordId.TheVariants as id
 use Rattle.record_layouts.specs.declared.proc.ProcRec.{ProcRec}
 use Rattle.record_layouts.specs.declared.desc.DescRec.{DescRec}
 use Rattle.record_layouts.specs.declared.file.FileRec.{FileRec}
@@ -135,30 +136,19 @@ file_fits = record {
 }
 
 pub small_values : (inside reads_only : Bool) (call done : ℕ) (regs : List ℕ) → AreValues (small_records inside reads_only call done regs)
-small_values inside reads_only call done regs = record {
-  head = record { layout = refl; next_from = omega arith; next_to = omega arith; hand = omega arith };
-  procs = λ _. process_fits inside call done regs;
-  sigs = λ _. record { highest = omega arith; lowest = refl };
-  descs = λ i. description_fits reads_only i;
-  files = λ _. file_fits;
-  caches = λ _. search rules;
-  terms = λ _. record { tty = omega arith; last = omega arith; top = omega arith; row = omega arith; col = omega arith };
-  rows = λ _. record { place = omega arith };
-  exits = λ _. inl (record { state = refl; value = refl });
-}
+small_values inside reads_only call done regs id.Head = record { layout = refl; next_from = omega arith; next_to = omega arith; hand = omega arith }
+small_values inside reads_only call done regs (id.Proc slot) = process_fits inside call done regs
+small_values inside reads_only call done regs (id.Sig slot) = record { highest = omega arith; lowest = refl }
+small_values inside reads_only call done regs (id.Desc index) = description_fits reads_only index
+small_values inside reads_only call done regs (id.File index) = file_fits
+small_values inside reads_only call done regs (id.Cache index) = search rules
+small_values inside reads_only call done regs (id.Term tty) = record { tty = omega arith; last = omega arith; top = omega arith; row = omega arith; col = omega arith }
+small_values inside reads_only call done regs (id.Row index) = record { place = omega arith }
+small_values inside reads_only call done regs (id.Exit pid) = inl (record { state = refl; value = refl })
 
 small_complete : (inside reads_only : Bool) (call done : ℕ) (regs : List ℕ) → AreComplete (small_records inside reads_only call done regs)
-small_complete inside reads_only call done regs = record {
-  head = refl;
-  procs = λ _ _. refl;
-  sigs = λ _ _. refl;
-  descs = λ _ _. refl;
-  files = λ _ _. refl;
-  caches = λ _ _. refl;
-  terms = λ _ _. refl;
-  rows = λ _ _. refl;
-  exits = λ _ _ _. refl;
-}
+small_complete inside reads_only call done regs id.Head there = refl
+small_complete inside reads_only call done regs one there = refl
 
 mapped : (inside reads_only : Bool) (call done : ℕ) (regs : List ℕ) → is_mapped (small_records inside reads_only call done regs) 3 (small_process inside call done regs) ≡ true
 unfolding is_mapped have_frames frame_of region_of entry_for

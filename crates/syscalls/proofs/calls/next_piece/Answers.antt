@@ -1,11 +1,15 @@
 use Rattle.std.proofs.Common.{◌≡◌, ◌<◌, ℕ, Option, Some, sym, ◌∙◌, subst, refl}
 use Rattle.std.specs.Option.{IsSome}
 use Rattle.record_layouts.specs.declared.desc.DescRec.{DescRec}
+use Rattle.record_layouts.specs.declared.places.RecordId.TheVariants as id
 use Rattle.syscalls.proofs.Naming.{InWrite, call_in, found, in_write}
 use Rattle.syscalls.proofs.calls.next_piece.Goals as goal
 
 some_is : (held : Option DescRec) (d : DescRec) → held ≡ Some d → IsSome held
 some_is held d is = subst IsSome (sym is) refl
+
+pub unwrap-requires-2 : goal.unwrap-requires-2
+unwrap-requires-2 g c = subst IsSome (sym c.head.ensures.record) (c.requires.can.complete id.Head tt)
 
 pub unwrap-description-requires : goal.unwrap-description-requires
 unwrap-description-requires g c =

@@ -1,6 +1,6 @@
 use Rattle.std.proofs.Common.{rules, sym}
 use Rattle.record_layouts.specs.Cache.{IsCache, cache_in}
-use Rattle.record_layouts.specs.Tests.{reads_none}
+use Rattle.ow_base.proofs.Deciding.{reads_none}
 use Rattle.record_layouts.proofs.Reading.{cache_is, cache_read}
 use Rattle.record_layouts.proofs.cache.CacheRec.from_words.Goals as goal
 

@@ -1,6 +1,6 @@
 use Rattle.std.proofs.Common.{rules, sym}
 use Rattle.record_layouts.specs.Desc.{IsDesc, desc_in}
-use Rattle.record_layouts.specs.Tests.{reads_none}
+use Rattle.ow_base.proofs.Deciding.{reads_none}
 use Rattle.record_layouts.proofs.Reading.{desc_is, desc_read}
 use Rattle.record_layouts.proofs.desc.DescRec.from_words.Goals as goal
 

@@ -1,6 +1,6 @@
 use Rattle.std.proofs.Common.{rules, sym}
 use Rattle.record_layouts.specs.Exit.{IsExit, exit_in}
-use Rattle.record_layouts.specs.Tests.{reads_none}
+use Rattle.ow_base.proofs.Deciding.{reads_none}
 use Rattle.record_layouts.proofs.Reading.{exit_is, exit_read}
 use Rattle.record_layouts.proofs.exit.ExitRec.from_words.Goals as goal
 

@@ -1,6 +1,6 @@
 use Rattle.std.proofs.Common.{rules, sym}
 use Rattle.record_layouts.specs.File.{IsFile, file_in}
-use Rattle.record_layouts.specs.Tests.{reads_none}
+use Rattle.ow_base.proofs.Deciding.{reads_none}
 use Rattle.record_layouts.proofs.Reading.{file_is, file_read}
 use Rattle.record_layouts.proofs.Files.{unread}
 use Rattle.record_layouts.proofs.file.FileRec.from_words.Goals as goal

@@ -1,4 +1,4 @@
-use Rattle.std.proofs.Common.{sym, ◌∙◌}
+use Rattle.std.proofs.Common.{sym}
 use Rattle.record_layouts.proofs.Files.{not_on_disk, on_disk}
 use Rattle.record_layouts.proofs.file.FileRec.on_disk.Goals as goal
 

@@ -1,6 +1,6 @@
 use Rattle.std.proofs.Common.{rules, sym}
 use Rattle.record_layouts.specs.Head.{IsHead, head_in}
-use Rattle.record_layouts.specs.Tests.{reads_none}
+use Rattle.ow_base.proofs.Deciding.{reads_none}
 use Rattle.record_layouts.proofs.Reading.{head_is, head_read}
 use Rattle.record_layouts.proofs.head.HeadRec.from_words.Goals as goal
 

@@ -1,6 +1,6 @@
 use Rattle.std.proofs.Common.{rules, sym}
 use Rattle.record_layouts.specs.Proc.{IsProc, proc_in}
-use Rattle.record_layouts.specs.Tests.{reads_none}
+use Rattle.ow_base.proofs.Deciding.{reads_none}
 use Rattle.record_layouts.proofs.Reading.{proc_is, proc_read}
 use Rattle.record_layouts.proofs.proc.ProcRec.from_words.Goals as goal
 

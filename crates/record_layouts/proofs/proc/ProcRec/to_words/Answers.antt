@@ -1,6 +1,7 @@
 -- Each part is followed from where it was put to the end: what is put later lies behind it.
 use Rattle.std.proofs.Common.{◌≡◌, ◌∙◌, length, take, replicate, arith, refl}
-use Rattle.record_layouts.proofs.Parts.{front_before, part_before, zeros_before, zeros_behind, before_seal, sealing}
+use Rattle.record_layouts.proofs.Parts.{front_before, part_before, zeros_before, zeros_behind, before_seal}
+use Rattle.record_layouts.proofs.Laying.{seal_put}
 use Rattle.record_layouts.proofs.Processes.{bank_before, numbers}
 use Rattle.record_layouts.proofs.Records.{zeros}
 use Rattle.record_layouts.proofs.proc.ProcRec.to_words.Goals as goal
@@ -37,5 +38,5 @@ returns c =
           (zeros_behind with_front (replicate 128 0) 13 117 127 (rw thirteen at c.put.ensures.behind) (omega arith)
           (zeros (replicate 128 0) 117 127 refl))))));
       fits = c.requires;
-      seal = rw sealed_words (sealing with_crash (omega arith));
+      seal = rw sealed_words (seal_put with_crash (omega arith));
     }

@@ -1,6 +1,6 @@
 use Rattle.std.proofs.Common.{rules, sym}
 use Rattle.record_layouts.specs.Row.{IsRow, row_in}
-use Rattle.record_layouts.specs.Tests.{reads_none}
+use Rattle.ow_base.proofs.Deciding.{reads_none}
 use Rattle.record_layouts.proofs.Reading.{row_is, row_read}
 use Rattle.record_layouts.proofs.row.RowRec.from_words.Goals as goal
 

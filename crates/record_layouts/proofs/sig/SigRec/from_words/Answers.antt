@@ -1,6 +1,6 @@
 use Rattle.std.proofs.Common.{rules, sym}
 use Rattle.record_layouts.specs.Sig.{IsSig, sig_in}
-use Rattle.record_layouts.specs.Tests.{reads_none}
+use Rattle.ow_base.proofs.Deciding.{reads_none}
 use Rattle.record_layouts.proofs.Reading.{sig_is, sig_read}
 use Rattle.record_layouts.proofs.sig.SigRec.from_words.Goals as goal
 
