@@ -1,20 +1,19 @@
 -- What is read of an area that changes in its block.
-use Rattle.std.proofs.Common.{◌≡◌, ℕ, ◌<◌, ◌≤◌, Bool, true, false, List, [], ◌∷◌, length, Option, None, refl, sym, ap, ◌∙◌, arith}
+use Rattle.std.proofs.Common.{◌≡◌, ℕ, ◌+◌, ◌<◌, ◌≤◌, Bool, true, false, List, [], ◌∷◌, length, Option, None, refl, sym, ap, ◌∙◌, arith}
 use Rattle.std.proofs.lemmas.Bool.Decides.{nat_tests}
 use Rattle.record_layouts.specs.declared.intent.Gate.TheVariants.{Open}
 use Rattle.record_layouts.specs.declared.memory_map.MemoryMap.{MemoryMap}
 use Rattle.record_layouts.specs.declared.patch.PatchItem.{PatchItem}
 use Rattle.record_layouts.specs.Held.{Records, with_items}
-use Rattle.record_layouts.specs.Overlay.{Area, WordRange, gate_of, gate_word, laid, open_ranges, or_none, overlay, payload_of}
+use Rattle.record_layouts.specs.Overlay.{Area, EndsOpen, WordRange, gate_of, gate_word, laid, open_ranges, or_none, overlay, payload_word}
 use Rattle.record_layouts.specs.Patch.{IsPatch}
 use Rattle.record_layouts.specs.Reading.{is_readable_gate, records_in}
-use Rattle.record_layouts.specs.Seam.{AreSpelled}
 use Rattle.record_layouts.proofs.Intents.{open_ranges_of}
 use Rattle.record_layouts.proofs.Seam.{patch_sets}
 use Rattle.record_layouts.proofs.Stores.{block_stays}
 use Rattle.intent_store.specs.Blocks.{IsSeenAs, IsSeenSet, IsShutLike, ReadsAs, is_of_block, opened, rolled, seen}
 use Rattle.intent_store.specs.Payloads.{IsPayload}
-use Rattle.intent_store.proofs.Openings.{opened-beside, opened-intent, opened-overlay}
+use Rattle.intent_store.proofs.Openings.{ends_by_gate, opened-beside, opened-gate, opened-intent, opened-overlay}
 use Rattle.intent_store.proofs.Payloads.{allowed_by}
 
 -- no record has a word of the block
@@ -77,24 +76,24 @@ module _ (area : Area) (items : List PatchItem) (payload : List ℕ) (shut : are
   pub readable-opened : (new : Area) → new ≡ opened area payload → is_readable_gate (gate_of new) ≡ true
   readable-opened new e = rw (e, gate-opened) refl
 
+  ends-there : EndsOpen (opened area payload) (payload_word + length payload)
+  ends-there =
+      let ends = ends_by_gate (opened area payload) is.ranges (opened-intent area payload fits is.ranges is.spelled (allowed_by is.ranges items is.sets) some) in
+      rw (opened-gate area payload fits) at ends
+
+  pub ends-opened : (new : Area) (end : ℕ) → new ≡ opened area payload → end ≡ payload_word + length payload → EndsOpen new end
+  ends-opened new end e ends = rw (e, ends) ends-there
+
 pub set-after : (items : List PatchItem) (old middle new : Area) → IsSeenAs old middle → IsSeenSet items middle new → IsSeenSet items old new
 set-after items old middle new first second = record { set = λ map room on_disk. second.set map room on_disk ∙ ap (λ (r : Records). with_items r items) (first.same map) }
 
 pub set-before : (items : List PatchItem) (old middle new : Area) → IsSeenSet items old middle → IsSeenAs middle new → IsSeenSet items old new
 set-before items old middle new first second = record { set = λ map room on_disk. second.same map ∙ first.set map room on_disk }
 
--- no record is set by a payload of no word
-no_item : (ranges : List WordRange) (items : List PatchItem) (r : Records) → AreSpelled ranges items → length (payload_of ranges) ≡ 0 → with_items r items ≡ r
-unfolding payload_of
-no_item [] [] r are none = refl
-no_item [] (i ∷ items) r are none = absurd are
-no_item (w ∷ ranges) [] r are none = absurd are
-no_item (w ∷ ranges) (i ∷ items) r are none = absurd (omega arith)
-
-pub set-none : (items : List PatchItem) (payload : List ℕ) (old new : Area) → IsPayload items payload → length payload ≡ 0 → IsSeenAs old new → IsSeenSet items old new
-set-none items payload old new is none seen_as = record {
-  set = λ map room on_disk. seen_as.same map ∙ sym (no_item is.ranges items (seen map old) is.sets (sym (ap (λ (ws : List ℕ). length ws) is.spelled) ∙ none));
-}
+-- no record is set by a patch of none
+pub set-none : (items : List PatchItem) (old new : Area) → length items ≡ 0 → IsSeenAs old new → IsSeenSet items old new
+set-none [] old new none seen_as = record { set = λ map room on_disk. seen_as.same map }
+set-none (item ∷ items) old new none seen_as = absurd (omega arith)
 
 pub rolled-gate : (old new : Area) → new ≡ rolled old → new gate_word ≡ 0
 rolled-gate old new e = rw e (grind (arith, nat_tests))

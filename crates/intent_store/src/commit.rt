@@ -8,9 +8,8 @@ ghost use Rattle.intent_store.specs.Blocks.{IsSeenAs, IsSeenSet};
 ghost use Rattle.ow_plant.specs.declared.refusal.Refusal.TheVariants.{Store};
 ghost use Rattle.intent_store.specs.Stores.{KeepsUnstored};
 
-use crate::copying::roll_forward;
+use crate::copying::{carry_out, roll_forward};
 use crate::opening::open;
-use crate::payload::payload;
 use crate::word_store::WordStore;
 use ow_base::Panicked;
 use record_layouts::Patch;
@@ -37,10 +36,9 @@ pub(crate) fn commit<W: WordStore>(store: &mut W, base: u32, patch: &Patch) -> R
     ensures place { W.place store.new ≡ W.place store.old }
 {
     roll_forward(store, base)?;
-    let payload = payload(patch);
-    if payload.is_empty() {
+    if patch.items.is_empty() {
         return Ok(());
     }
-    open(store, base, payload.as_slice())?;
-    roll_forward(store, base)
+    let end = open(store, base, patch)?;
+    carry_out(store, base, end)
 }

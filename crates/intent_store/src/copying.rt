@@ -28,12 +28,29 @@ pub(crate) fn roll_forward<W: WordStore>(store: &mut W, base: u32) -> Result<(),
     ensures place { W.place store.new ≡ W.place store.old }
 {
     match open_end(store, base) {
-        Some(end) => {
-            copy_changes(store, base, end)?;
-            store_area(store, base, GATE, 0)
-        }
+        Some(end) => carry_out(store, base, end),
         None => Ok(()),
     }
+}
+
+/// Carries out the open intent, whose payload ends before `end`, and closes it.
+pub(crate) fn carry_out<W: WordStore>(store: &mut W, base: u32, end: u32) -> Result<(), Panicked>
+    requires able { W.able store.old ≡ true }
+    requires area { HasArea (W.words store.old) base }
+    requires open { EndsOpen (area_at (W.words store.old) base) end }
+    ensures ok { OnOk result (area_at (W.words store.new) base ≡ rolled (area_at (W.words store.old) base)) }
+    ensures err { OnErr result (ReadsAs (area_at (W.words store.old) base) (area_at (W.words store.new) base)) }
+    ensures there { HasArea (W.words store.new) base }
+    ensures beside { beside base (W.words store.new) ≡ beside base (W.words store.old) }
+    ensures rest { W.rest store.new ≡ W.rest store.old }
+    ensures stays { OnOk result (W.able store.new ≡ true) }
+    ensures cause { OnErr result (W.refusal store.new ≡ Some Store) }
+    ensures unstored { KeepsUnstored (W.made store.old) (W.made store.new) (W.words store.old) (W.words store.new) }
+    ensures allowed { OnErr result (W.may_refuse (W.rest store.old) ≡ true) }
+    ensures place { W.place store.new ≡ W.place store.old }
+{
+    copy_changes(store, base, end)?;
+    store_area(store, base, GATE, 0)
 }
 
 // Copies the new values of the open intent, whose payload ends before `end`, to their places.

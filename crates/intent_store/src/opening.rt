@@ -1,23 +1,35 @@
 //! An intent is spelled in the block of an area, and opened.
-ghost use Rattle.std.specs.Prelude.{◌≡◌, ◌<◌, ◌≤◌, true, length, OnOk, OnErr};
+ghost use Rattle.std.specs.Prelude.{◌≡◌, ◌+◌, ◌<◌, ◌≤◌, true, length, IfOk, OnOk, OnErr};
 ghost use Rattle.record_layouts.specs.Held.{beside};
 ghost use Rattle.record_layouts.specs.Overlay.{HasArea, area_at};
-ghost use Rattle.intent_store.specs.Blocks.{IsShutLike, opened, with_words_at};
+ghost use Rattle.record_layouts.specs.Patch.{FitsAny, IsPatch, IsPatchItem};
+ghost use Rattle.intent_store.specs.Blocks.{IsShutLike};
+ghost use Rattle.intent_store.specs.Payloads.{IsItemSpelled, IsOpened, IsPatchSpelled, IsRecordSpelled, IsSpelledOn};
 ghost use Rattle.ow_plant.specs.declared.refusal.Refusal.TheVariants.{Store};
 ghost use Rattle.intent_store.specs.Stores.{KeepsUnstored};
 
+use crate::payload::{length_of, payload_length};
 use crate::word_store::{WordStore, store_area};
 use ow_base::{Panicked, seal};
-use record_layouts::{GATE, INTENT_KIND, PAYLOAD, SEAL};
+use record_layouts::{
+    AnyRec, GATE, INTENT_KIND, PAYLOAD, Patch, PatchItem, SEAL, address, records_lie_apart,
+};
 
-/// Opens an intent with this payload of 1 to 1,006 words in the area that begins at frame `base`, where none is open: the
-/// payload and the seal are stored first, and the gate opens last.
-pub(crate) fn open<W: WordStore>(store: &mut W, base: u32, payload: &[u32]) -> Result<(), Panicked>
+/// How far an intent is spelled: the number of the next word of its payload, and the seal of its gate and its words.
+#[derive(Clone, Copy, Debug, PartialEq, Eq)]
+pub(crate) struct Spelling {
+    pub(crate) end: u32,
+    pub(crate) seal: u32,
+}
+
+/// Opens an intent that sets the records of a patch in the area that begins at frame `base`, where none is open: the
+/// payload and the seal are stored first, and the gate opens last. The number behind the payload comes back.
+pub(crate) fn open<W: WordStore>(store: &mut W, base: u32, patch: &Patch) -> Result<u32, Panicked>
     requires able { W.able store.old ≡ true }
     requires area { HasArea (W.words store.old) base }
     requires shut { area_at (W.words store.old) base 16 ≡ 0 }
-    requires fits { length payload.now ≤ 1006 }
-    ensures ok { OnOk result (area_at (W.words store.new) base ≡ opened (area_at (W.words store.old) base) payload.now) }
+    requires patch { IsPatch patch.now.items.items }
+    ensures ok { IfOk result (IsOpened patch.now.items.items (area_at (W.words store.old) base) (area_at (W.words store.new) base)) }
     ensures err { OnErr result (IsShutLike (area_at (W.words store.old) base) (area_at (W.words store.new) base)) }
     ensures there { HasArea (W.words store.new) base }
     ensures beside { beside base (W.words store.new) ≡ beside base (W.words store.old) }
@@ -28,20 +40,30 @@ pub(crate) fn open<W: WordStore>(store: &mut W, base: u32, payload: &[u32]) -> R
     ensures allowed { OnErr result (W.may_refuse (W.rest store.old) ≡ true) }
     ensures place { W.place store.new ≡ W.place store.old }
 {
-    let count = payload.len() as u32;
-    store_payload(store, base, payload)?;
-    let seal = seal(seal(INTENT_KIND, &[count]), payload);
-    store_area(store, base, SEAL, seal)?;
-    store_area(store, base, GATE, count)
+    let count = payload_length(patch);
+    let begun = Spelling {
+        end: PAYLOAD,
+        seal: seal(INTENT_KIND, &[count]),
+    };
+    let spelled = store_payload(store, base, begun, patch)?;
+    store_area(store, base, SEAL, spelled.seal)?;
+    store_area(store, base, GATE, count)?;
+    Ok(spelled.end)
 }
 
-// Stores the words of a payload under a closed gate.
-fn store_payload<W: WordStore>(store: &mut W, base: u32, payload: &[u32]) -> Result<(), Panicked>
+// Stores the payload that sets the records of a patch under a closed gate, one range for each.
+fn store_payload<W: WordStore>(
+    store: &mut W,
+    base: u32,
+    begun: Spelling,
+    patch: &Patch,
+) -> Result<Spelling, Panicked>
     requires able { W.able store.old ≡ true }
     requires area { HasArea (W.words store.old) base }
     requires shut { area_at (W.words store.old) base 16 ≡ 0 }
-    requires fits { length payload.now ≤ 1006 }
-    ensures ok { OnOk result (area_at (W.words store.new) base ≡ with_words_at (area_at (W.words store.old) base) 17 payload.now) }
+    requires begun { begun.end ≡ 17 }
+    requires patch { IsPatch patch.now.items.items }
+    ensures ok { IfOk result (IsPatchSpelled patch.now.items.items (area_at (W.words store.old) base) (area_at (W.words store.new) base) begun) }
     ensures shut { IsShutLike (area_at (W.words store.old) base) (area_at (W.words store.new) base) }
     ensures there { HasArea (W.words store.new) base }
     ensures beside { beside base (W.words store.new) ≡ beside base (W.words store.old) }
@@ -52,8 +74,108 @@ fn store_payload<W: WordStore>(store: &mut W, base: u32, payload: &[u32]) -> Res
     ensures allowed { OnErr result (W.may_refuse (W.rest store.old) ≡ true) }
     ensures place { W.place store.new ≡ W.place store.old }
 {
-    for (index, word) in payload.iter().enumerate() {
-        store_area(store, base, PAYLOAD + index as u32, *word)?;
+    let mut spelled = begun;
+    for item in patch.items.as_slice() {
+        spelled = store_item(store, base, spelled, item)?;
     }
-    Ok(())
+    Ok(spelled)
+}
+
+// Stores the range that sets a record, which has at most 131 words, behind what is stored of a payload.
+fn store_item<W: WordStore>(
+    store: &mut W,
+    base: u32,
+    spelled: Spelling,
+    item: &PatchItem,
+) -> Result<Spelling, Panicked>
+    requires able { W.able store.old ≡ true }
+    requires area { HasArea (W.words store.old) base }
+    requires shut { area_at (W.words store.old) base 16 ≡ 0 }
+    requires begun { 17 ≤ spelled.end }
+    requires room { spelled.end + 131 ≤ 1023 }
+    requires item { IsPatchItem item.now }
+    ensures ok { IfOk result (IsItemSpelled item.now (area_at (W.words store.old) base) (area_at (W.words store.new) base) spelled) }
+    ensures shut { IsShutLike (area_at (W.words store.old) base) (area_at (W.words store.new) base) }
+    ensures there { HasArea (W.words store.new) base }
+    ensures beside { beside base (W.words store.new) ≡ beside base (W.words store.old) }
+    ensures rest { W.rest store.new ≡ W.rest store.old }
+    ensures stays { OnOk result (W.able store.new ≡ true) }
+    ensures cause { OnErr result (W.refusal store.new ≡ Some Store) }
+    ensures unstored { KeepsUnstored (W.made store.old) (W.made store.new) (W.words store.old) (W.words store.new) }
+    ensures allowed { OnErr result (W.may_refuse (W.rest store.old) ≡ true) }
+    ensures place { W.place store.new ≡ W.place store.old }
+{
+    records_lie_apart();
+    let (frame, first) = address(item.id);
+    let spelled = store_words(store, base, spelled, &[frame, first, length_of(item.id)])?;
+    store_record(store, base, spelled, &item.rec)
+}
+
+// Stores the words of a record, of which there are at most 128, behind what is stored of a payload.
+fn store_record<W: WordStore>(
+    store: &mut W,
+    base: u32,
+    spelled: Spelling,
+    rec: &AnyRec,
+) -> Result<Spelling, Panicked>
+    requires able { W.able store.old ≡ true }
+    requires area { HasArea (W.words store.old) base }
+    requires shut { area_at (W.words store.old) base 16 ≡ 0 }
+    requires begun { 17 ≤ spelled.end }
+    requires room { spelled.end + 128 ≤ 1023 }
+    requires rec { FitsAny rec.now }
+    ensures ok { IfOk result (IsRecordSpelled rec.now (area_at (W.words store.old) base) (area_at (W.words store.new) base) spelled) }
+    ensures shut { IsShutLike (area_at (W.words store.old) base) (area_at (W.words store.new) base) }
+    ensures there { HasArea (W.words store.new) base }
+    ensures beside { beside base (W.words store.new) ≡ beside base (W.words store.old) }
+    ensures rest { W.rest store.new ≡ W.rest store.old }
+    ensures stays { OnOk result (W.able store.new ≡ true) }
+    ensures cause { OnErr result (W.refusal store.new ≡ Some Store) }
+    ensures unstored { KeepsUnstored (W.made store.old) (W.made store.new) (W.words store.old) (W.words store.new) }
+    ensures allowed { OnErr result (W.may_refuse (W.rest store.old) ≡ true) }
+    ensures place { W.place store.new ≡ W.place store.old }
+{
+    match rec {
+        AnyRec::Head(head) => store_words(store, base, spelled, &head.to_words()),
+        AnyRec::Proc(process) => store_words(store, base, spelled, &process.to_words()),
+        AnyRec::Sig(signals) => store_words(store, base, spelled, &signals.to_words()),
+        AnyRec::Desc(description) => store_words(store, base, spelled, &description.to_words()),
+        AnyRec::File(file) => store_words(store, base, spelled, &file.to_words()),
+        AnyRec::Cache(entry) => store_words(store, base, spelled, &entry.to_words()),
+        AnyRec::Term(terminal) => store_words(store, base, spelled, &terminal.to_words()),
+        AnyRec::Row(row) => store_words(store, base, spelled, &row.to_words()),
+        AnyRec::Exit(exit) => store_words(store, base, spelled, &exit.to_words()),
+    }
+}
+
+// Stores words behind what is stored of a payload, under a closed gate.
+fn store_words<W: WordStore>(
+    store: &mut W,
+    base: u32,
+    spelled: Spelling,
+    words: &[u32],
+) -> Result<Spelling, Panicked>
+    requires able { W.able store.old ≡ true }
+    requires area { HasArea (W.words store.old) base }
+    requires shut { area_at (W.words store.old) base 16 ≡ 0 }
+    requires begun { 17 ≤ spelled.end }
+    requires room { spelled.end + length words.now ≤ 1023 }
+    ensures ok { IfOk result (IsSpelledOn words.now (area_at (W.words store.old) base) (area_at (W.words store.new) base) spelled) }
+    ensures shut { IsShutLike (area_at (W.words store.old) base) (area_at (W.words store.new) base) }
+    ensures there { HasArea (W.words store.new) base }
+    ensures beside { beside base (W.words store.new) ≡ beside base (W.words store.old) }
+    ensures rest { W.rest store.new ≡ W.rest store.old }
+    ensures stays { OnOk result (W.able store.new ≡ true) }
+    ensures cause { OnErr result (W.refusal store.new ≡ Some Store) }
+    ensures unstored { KeepsUnstored (W.made store.old) (W.made store.new) (W.words store.old) (W.words store.new) }
+    ensures allowed { OnErr result (W.may_refuse (W.rest store.old) ≡ true) }
+    ensures place { W.place store.new ≡ W.place store.old }
+{
+    for (index, word) in words.iter().enumerate() {
+        store_area(store, base, spelled.end + index as u32, *word)?;
+    }
+    Ok(Spelling {
+        end: spelled.end + words.len() as u32,
+        seal: seal(spelled.seal, words),
+    })
 }

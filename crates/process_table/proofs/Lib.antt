@@ -3,6 +3,7 @@ pub mod Least
 pub mod Holding
 pub mod Pending
 pub mod Working
+pub mod Nexts
 pub mod Ended
 pub mod Seats
 pub mod Regions

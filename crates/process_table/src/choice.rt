@@ -1,5 +1,5 @@
 //! Which process is next, and what is done with it.
-ghost use Rattle.std.specs.Prelude.{◌≡◌, ◌<◌, ◌≤◌, IfSome, IfNone, Some, true, false};
+ghost use Rattle.std.specs.Prelude.{◌≡◌, ◌<◌, ◌≤◌, ◌⊎◌, IfSome, IfNone, Some, true, false};
 ghost use Rattle.record_layouts.specs.Pages.{is_live};
 ghost use Rattle.record_layouts.specs.Proc.{FitsProc};
 ghost use Rattle.record_layouts.specs.Desc.{FitsDesc};
@@ -129,24 +129,57 @@ fn ready_in<V: RecordView>(view: &V, now: &Now, above: u32, slot: u32) -> Option
     if ready { Some(process) } else { None }
 }
 
-// Of the processes that can run, the slot of the one with the least pid above this one.
-fn next_above<V: RecordView>(view: &V, now: &Now, above: u32) -> Option<u32>
-    ensures found { IfSome result (IsNext (V.records view.now) now.now above) }
-    ensures none { IfNone result (IsNone (V.records view.now) now.now above) }
+// A process that can run, by its pid and its slot.
+#[derive(Clone, Copy, Debug, PartialEq, Eq)]
+struct Ready {
+    pid: u32,
+    slot: u32,
+}
+
+// Of the processes that can run, the one with the least pid above some pid, and the one with the least of all.
+#[derive(Clone, Copy, Debug, PartialEq, Eq)]
+struct Nexts {
+    above: Option<Ready>,
+    least: Option<Ready>,
+}
+
+// The one with the lesser pid.
+fn lesser(held: Option<Ready>, one: Ready) -> Ready
+    ensures one_of { (result ≡ one) ⊎ (held ≡ Some result) }
+    ensures least { result.pid ≤ one.pid }
+    ensures no_more { IfSome held (λ other. result.pid ≤ other.pid) }
 {
-    let mut least: Option<(u32, u32)> = None;
+    match held {
+        Some(other) if other.pid <= one.pid => other,
+        _ => one,
+    }
+}
+
+// Which processes can be next after that of the pid `last`.
+fn next_ones<V: RecordView>(view: &V, now: &Now, last: u32) -> Nexts
+    ensures above { IfSome result.above (λ next. IsNext (V.records view.now) now.now last next.slot) }
+    ensures none_above { IfNone result.above (IsNone (V.records view.now) now.now last) }
+    ensures least { IfSome result.least (λ next. IsNext (V.records view.now) now.now 0 next.slot) }
+    ensures none { IfNone result.least (IsNone (V.records view.now) now.now 0) }
+{
+    let mut nexts = Nexts {
+        above: None,
+        least: None,
+    };
     for slot in 0..SLOTS {
-        if let Some(process) = ready_in(view, now, above, slot) {
-            least = match least {
-                Some((pid, held)) if pid <= process.pid => Some((pid, held)),
-                _ => Some((process.pid, slot)),
-            };
+        let Some(process) = ready_in(view, now, 0, slot) else {
+            continue;
+        };
+        let one = Ready {
+            pid: process.pid,
+            slot,
+        };
+        nexts.least = Some(lesser(nexts.least, one));
+        if process.pid > last {
+            nexts.above = Some(lesser(nexts.above, one));
         }
     }
-    match least {
-        Some((_, slot)) => Some(slot),
-        None => None,
-    }
+    nexts
 }
 
 // What is done with the chosen process of a slot.
@@ -181,11 +214,12 @@ fn last_pid<V: RecordView>(view: &V) -> u32
 pub fn choose<V: RecordView>(view: &V, now: &Now) -> Choice
     ensures { IsChoice (V.records view.now) now.now result }
 {
-    if let Some(slot) = next_above(view, now, last_pid(view)) {
-        return work_of(view, slot);
+    let nexts = next_ones(view, now, last_pid(view));
+    if let Some(next) = nexts.above {
+        return work_of(view, next.slot);
     }
-    match next_above(view, now, 0) {
-        Some(slot) => work_of(view, slot),
+    match nexts.least {
+        Some(next) => work_of(view, next.slot),
         None if has_such(view, Sought::Live) => Choice::Idle,
         None => Choice::AllEnded,
     }

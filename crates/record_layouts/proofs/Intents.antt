@@ -139,3 +139,8 @@ overlay-read area number None e stays = refl
 pub overlay-beside : (area : Area) (number : ℕ) → may_change number (number + 1) ≡ false → overlay area number ≡ area number
 unfolding overlay
 overlay-beside area number stays = overlay-read area number (open_ranges area) refl stays
+
+-- where no intent is open, each word is read as it is
+pub overlay-shut : (area : Area) → open_ranges area ≡ None → overlay area ≡ area
+unfolding overlay laid
+overlay-shut area none = λ i m. ap (λ (o : Option (List WordRange)). laid (or_none o) m (area m)) none i

@@ -151,9 +151,30 @@ impl<W: WordSource> Area<'_, W> {
         requires { first + length words.old ≤ 65536 }
         ensures { words.new ≡ words_from (overlay (area_at (W.words self.now.source.now) self.now.base)) first (length words.old) }
     {
-        let end = self.open_end();
+        match self.open_end() {
+            Some(end) => self.read_laid(end, first, words),
+            None => self.read_own(first, words),
+        }
+    }
+
+    // Fills `words` with those from the number `first` on, as they are in memory.
+    fn read_own(&self, first: u32, words: &mut [u32])
+        requires { first + length words.old ≤ 65536 }
+        ensures { words.new ≡ words_from (area_at (W.words self.now.source.now) self.now.base) first (length words.old) }
+    {
         for (k, word) in words.iter_mut().enumerate() {
-            *word = self.shown(end, first + k as u32);
+            *word = self.word(first + k as u32);
+        }
+    }
+
+    // Fills `words` with those from the number `first` on, with the open intent laid over them whose payload ends at `end`.
+    fn read_laid(&self, end: u32, first: u32, words: &mut [u32])
+        requires room { first + length words.old ≤ 65536 }
+        requires open { EndsOpen (area_at (W.words self.now.source.now) self.now.base) end }
+        ensures { words.new ≡ words_from (overlay (area_at (W.words self.now.source.now) self.now.base)) first (length words.old) }
+    {
+        for (k, word) in words.iter_mut().enumerate() {
+            *word = self.shown(Some(end), first + k as u32);
         }
     }
 

@@ -1,13 +1,5 @@
-use Rattle.std.proofs.Common.{subst, sym}
-use Rattle.record_layouts.specs.Overlay.{Area, area_at}
-use Rattle.intent_store.specs.Blocks.{ReadsAs}
-use Rattle.intent_store.proofs.Outcomes.{on_err}
 use Rattle.intent_store.proofs.Changes.{rolled-shut}
 use Rattle.intent_store.proofs.copying.roll_forward.Goals as goal
-
-pub returns-in_ok-copy_changes-in-Some-clause-err : goal.returns-in_ok-copy_changes-in-Some-clause-err
-returns-in_ok-copy_changes-in-Some-clause-err g c =
-    on_err c.store_area.result _ _ (λ e. subst (λ (a : Area). ReadsAs (area_at (g.W.WordSource.words c.args.store.now) c.args.base) a) (sym e) c.copy_changes.ensures.reads) c.store_area.ensures.err
 
 pub returns-in-None-clause-ok : goal.returns-in-None-clause-ok
 returns-in-None-clause-ok g c = rolled-shut _ c.requires.readable c.in-None.ensures.none

@@ -1,16 +1,17 @@
 use Rattle.std.proofs.Common.{◌≡◌, true, take}
 use Rattle.record_layouts.specs.Held.{beside}
 use Rattle.record_layouts.specs.Overlay.{HasArea, area_at}
-use Rattle.intent_store.specs.Blocks.{IsShutLike, with_words_at}
+use Rattle.intent_store.specs.Blocks.{IsShutLike}
+use Rattle.intent_store.specs.Payloads.{IsPatchSpelled}
 use Rattle.intent_store.specs.Stores.{KeepsUnstored}
 use Rattle.intent_store.proofs.opening.store_payload.Given as goal
 
--- the first words of the payload are stored
-abbrev pub invariant-loop-index : goal.invariant-loop-index
-invariant-loop-index g l =
+-- the records so far are spelled
+abbrev pub invariant-loop-item : goal.invariant-loop-item
+invariant-loop-item g l =
     let words = g.W.WordSource.words in
     record {
-      stored : area_at (words l.store) l.base ≡ with_words_at (area_at (words l.fn.store) l.base) 17 (take l.index l.payload);
+      so_far : IsPatchSpelled (take l.item-index l.item-items) (area_at (words l.fn.store) l.base) (area_at (words l.store) l.base) l.fn.begun l.spelled;
       shut : IsShutLike (area_at (words l.fn.store) l.base) (area_at (words l.store) l.base);
       there : HasArea (words l.store) l.base;
       same_beside : beside l.base (words l.store) ≡ beside l.base (words l.fn.store);

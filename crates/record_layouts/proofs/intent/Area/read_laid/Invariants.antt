@@ -1,6 +1,6 @@
 use Rattle.std.proofs.Common.{◌≡◌, ℕ, ◌+◌, ◌<◌, get_or}
 use Rattle.record_layouts.specs.Overlay.{area_at, overlay}
-use Rattle.record_layouts.proofs.intent.Area.read.Given as goal
+use Rattle.record_layouts.proofs.intent.Area.read_laid.Given as goal
 
 -- the words so far are those of the area with the intent laid over it
 abbrev pub invariant-loop-k : goal.invariant-loop-k
