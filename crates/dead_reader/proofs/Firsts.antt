@@ -1,15 +1,13 @@
 -- A process decodes exactly where no part of it is the first that cannot be read.
-use Rattle.std.proofs.Common.{◌≡◌, ◌⊎◌, ◌↔◌, ℕ, zero, suc, ◌+◌, ◌<◌, ◌≤◌, ◌==◌, ◌&&◌, Bool, true, false, not, Option, Some, None, is_some, refl, sym, ap, ◌∙◌, inl, inr, arith}
+use Rattle.std.proofs.Common.{◌≡◌, ◌↔◌, ℕ, zero, suc, ◌+◌, ◌<◌, ◌≤◌, ◌==◌, ◌&&◌, Bool, true, false, Option, Some, None, is_some, refl, sym, ◌∙◌, inl, inr, arith}
 use Rattle.std.proofs.lemmas.Bool.{and_parts, cases_Bool, cases_eq, cases_lt}
-use Rattle.std.proofs.lemmas.Bool.Decides.{nat_tests}
 use Rattle.record_layouts.specs.declared.places.RecordId.{RecordId}
 use Rattle.record_layouts.specs.declared.places.RecordId.TheVariants as id
 use Rattle.record_layouts.specs.declared.proc.ProcRec.{ProcRec}
 use Rattle.record_layouts.specs.Decode.{decodes}
 use Rattle.record_layouts.specs.Held.{Records}
-use Rattle.record_layouts.specs.Least.{IsLeast, NonePasses}
 use Rattle.record_layouts.specs.Left.{AreRead, IsFirstUnreadable, has_tables, is_record_of, lacks_frame}
-use Rattle.record_layouts.specs.Pages.{frame_of, high_place, is_linked, is_live, is_mapped, low_place, region_of}
+use Rattle.record_layouts.specs.Pages.{is_live, is_mapped, region_of}
 use Rattle.frame_table.proofs.Counting.{region_none, values_end}
 use Rattle.frame_table.proofs.Tables.{HasFrame, HasNone, page_case}
 use Rattle.dead_reader.proofs.Framed.{all_have}

@@ -1,13 +1,11 @@
 -- Which page of a process is the first that has no frame.
-use Rattle.std.proofs.Common.{◌≡◌, ◌⊎◌, ℕ, zero, suc, ◌+◌, ◌-◌, ◌<◌, ◌≤◌, Bool, true, false, not, ◌&&◌, Option, Some, None, is_some, IfSome, IfNone, refl, inl, inr, arith}
-use Rattle.std.proofs.lemmas.Bool.{cases_Bool}
+use Rattle.std.proofs.Common.{◌≡◌, ℕ, zero, suc, ◌+◌, ◌-◌, ◌<◌, ◌≤◌, Bool, true, false, not, Option, Some, None, is_some, IfSome, IfNone, refl, inl, inr, arith}
 use Rattle.record_layouts.specs.declared.proc.ProcRec.{ProcRec}
 use Rattle.record_layouts.specs.Held.{Records}
 use Rattle.record_layouts.specs.Least.{IsLeast, NonePasses}
 use Rattle.record_layouts.specs.Left.{has_tables, lacks_frame}
-use Rattle.record_layouts.specs.Pages.{frame_of, have_frames, heap_pages, is_linked, is_live, is_mapped, page_total, region_of}
-use Rattle.record_layouts.specs.Proc.{FitsProc}
-use Rattle.frame_table.proofs.Counting.{IsOfRegions, in_or_out, low_end, region_none, region_there, values_end}
+use Rattle.record_layouts.specs.Pages.{frame_of, have_frames, heap_pages, is_live, is_mapped, page_total, region_of}
+use Rattle.frame_table.proofs.Counting.{IsOfRegions, in_or_out, region_none, region_there, values_end}
 
 module _ (r : Records) (slot : ℕ) (process : ProcRec) where
   -- the page has no frame

@@ -1,14 +1,14 @@
 -- What the records of a process that is left say.
-use Rattle.std.proofs.Common.{◌≡◌, ℕ, ◌≤◌, Bool, true, false, ◌&&◌, ◌==◌, if◌then◌else◌, List, slice_index, EachIndex, Option, Some, None, refl, sym, ap, subst, ◌∙◌, arith}
+use Rattle.std.proofs.Common.{◌≡◌, ℕ, ◌≤◌, Bool, true, false, if◌then◌else◌, List, slice_index, EachIndex, Option, Some, None, refl, sym, ap, subst, ◌∙◌}
 use Rattle.std.proofs.lemmas.Bool.{and_parts}
 use Rattle.record_layouts.specs.declared.dead_proc.DeadProc.{DeadProc}
 use Rattle.record_layouts.specs.declared.head.HeadRec.{HeadRec}
 use Rattle.record_layouts.specs.declared.proc.ProcRec.{ProcRec}
 use Rattle.record_layouts.specs.Held.{AreValues, Records}
-use Rattle.record_layouts.specs.Left.{HandedOver, dead_proc, has_handed_bank, left_rec, with_handed_bank}
+use Rattle.record_layouts.specs.Left.{HandedOver, dead_proc, left_rec, with_handed_bank}
 use Rattle.record_layouts.specs.Pages.{is_live}
 use Rattle.frame_table.proofs.Counting.{fits_there, live_fits}
-use Rattle.dead_reader.specs.Processes.{IsDead, IsDecoded}
+use Rattle.dead_reader.specs.Processes.{IsDead}
 
 -- descriptor words that are 0 or one more than the number of a description
 abbrev pub AreDescriptors : List ℕ → Type 0

@@ -1,7 +1,6 @@
 -- The processes that are left.
 use Rattle.std.specs.Prelude.{◌≡◌, ℕ, ◌<◌, true, Option, Some}
 use Rattle.record_layouts.specs.declared.dead_proc.DeadProc.{DeadProc}
-use Rattle.record_layouts.specs.declared.places.RecordId.{RecordId}
 use Rattle.record_layouts.specs.declared.proc.ProcRec.{ProcRec}
 use Rattle.record_layouts.specs.Decode.{decodes, pid_in}
 use Rattle.record_layouts.specs.Held.{Records}

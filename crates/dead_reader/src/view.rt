@@ -54,7 +54,6 @@ impl<M: DeadMemory> DeadView<'_, M> {
 
     /// The pid that is live in a slot by the exit records, the least where there are several.
     pub fn pid_in(&self, slot: u32) -> Option<u32>
-        requires { slot < 16 }
         ensures { result ≡ pid_in (records_left (M.dead self.now.memory.now) (M.words self.now.memory.now)) slot }
     {
         pid_in(self, slot)

@@ -1,4 +1,4 @@
-use Rattle.std.proofs.Common.{◌≡◌, ℕ, ◌+◌, ◌-◌, ◌<◌, ◌≤◌, true, false, Some, arith}
+use Rattle.std.proofs.Common.{◌≡◌, ℕ, ◌<◌, true, false, Some, arith}
 use Rattle.record_layouts.specs.Least.{IsLeast, NonePasses}
 use Rattle.record_layouts.specs.Left.{has_tables, lacks_frame}
 use Rattle.record_layouts.specs.Pages.{is_mapped}

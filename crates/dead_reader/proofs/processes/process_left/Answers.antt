@@ -1,6 +1,5 @@
-use Rattle.std.proofs.Common.{◌≡◌, ℕ, true, Some, sym, subst, ◌∙◌, arith}
-use Rattle.std.proofs.lemmas.Grind.{common_steps}
-use Rattle.record_layouts.specs.Decode.{decodes, pid_in}
+use Rattle.std.proofs.Common.{◌≡◌, ℕ, true, Some, sym, subst, ◌∙◌}
+use Rattle.record_layouts.specs.Decode.{decodes}
 use Rattle.dead_reader.proofs.Firsts.{no_first}
 use Rattle.dead_reader.proofs.processes.process_left.Goals as goal
 

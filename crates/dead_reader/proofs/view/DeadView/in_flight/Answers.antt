@@ -1,4 +1,3 @@
-use Rattle.std.proofs.Common.{◌≡◌}
 use Rattle.dead_reader.proofs.view.DeadView.in_flight.Goals as goal
 
 pub returns-clause-none : goal.returns-clause-none
