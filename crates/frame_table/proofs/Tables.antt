@@ -51,11 +51,11 @@ is_there (Some frame) there = (frame, refl)
 is_there None there = grind arith
 
 -- a page has rights and a frame, or neither of them
-data PageCase (r : Records) (slot : ℕ) (process : ProcRec) (page : ℕ) : Type 0 where
+pub data PageCase (r : Records) (slot : ℕ) (process : ProcRec) (page : ℕ) : Type 0 where
   HasFrame : (frame : ℕ) → frame_of r slot process page ≡ Some frame → PageCase r slot process page
   HasNone : region_of process page ≡ None → PageCase r slot process page
 
-page_case : (r : Records) (slot : ℕ) (process : ProcRec) (page : ℕ) → is_mapped r slot process ≡ true → PageCase r slot process page
+pub page_case : (r : Records) (slot : ℕ) (process : ProcRec) (page : ℕ) → is_mapped r slot process ≡ true → PageCase r slot process page
 page_case r slot process page mapped =
     let have = mapped_frames r slot process mapped in
     elim (in_or_out process page) [

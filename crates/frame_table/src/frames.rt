@@ -1,6 +1,7 @@
 //! Which frame of memory a page of a process is.
 
 ghost use Rattle.std.specs.Prelude.{◌≡◌, ◌<◌, ◌^◌, Some, None, if◌then◌else◌};
+ghost use Rattle.record_layouts.specs.Left.{has_tables};
 ghost use Rattle.record_layouts.specs.Pages.{claim_of, entry_for, frame_of, is_linked, leaf_frame, owned, page_frame_of};
 ghost use Rattle.record_layouts.specs.Proc.{FitsProc};
 
@@ -77,6 +78,14 @@ fn entry_for<V: RecordView>(view: &V, slot: u32, page: u32) -> Option<u32>
     } else {
         None
     }
+}
+
+/// The root of a slot leads to its low table and to its high one.
+pub fn has_tables<V: RecordView>(view: &V, slot: u32) -> bool
+    requires { slot < 16 }
+    ensures { result ≡ has_tables (V.records view.now) slot }
+{
+    is_linked(view, slot, 1, 0) && is_linked(view, slot, 2, 511)
 }
 
 // The root has the pointer to a table at a place.

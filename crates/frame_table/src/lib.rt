@@ -5,7 +5,7 @@ mod frames;
 mod laws;
 mod regions;
 
-pub use frames::{claim_word, frame_of_page, page_frame};
+pub use frames::{claim_word, frame_of_page, has_tables, page_frame};
 pub use laws::{
     frames_lie_apart, mapped_pages_have_frames, pages_are_counted, tables_lead_to_pages,
 };

@@ -1,31 +1,20 @@
 -- What contracts see of the kernel that runs on a plant.
 use Rattle.std.specs.Prelude.{◌≡◌, ℕ, ◌+◌, Bool, true, not, ◌&&◌, List, [], length, replicate, is_some, None}
 use Rattle.std.specs.List.{list_any}
-use Rattle.ow_base.specs.declared.machine.AreaId.{AreaId}
-use Rattle.ow_base.specs.declared.machine.AreaId.TheVariants.{A, B}
 use Rattle.ow_plant.specs.Points.{is_in}
 use Rattle.ow_plant.specs.State.{IsArmed, PlantState, is_refused}
 use Rattle.phys_memory.specs.Memory.{MemoryParts, words_of}
 use Rattle.record_layouts.specs.declared.memory_map.MemoryMap.{MemoryMap}
+pub use Rattle.record_layouts.specs.Halves.{base_of}
+use Rattle.record_layouts.specs.Halves.{half_map}
 use Rattle.record_layouts.specs.Held.{Held, Records, beside}
 use Rattle.record_layouts.specs.Overlay.{area_at, gate_of}
 use Rattle.record_layouts.specs.Reading.{records_of}
 use Rattle.record_layouts.specs.declared.intent.Gate.{Gate}
 
--- the first frame of an area: half A follows the boot frame, and half B follows it
-abbrev pub base_of : AreaId → (user_frames : ℕ) → ℕ
-base_of A user_frames = 1
-base_of B user_frames = 129 + user_frames
-
 -- where the frames of the kernel are that runs
 abbrev pub map_of : PlantState → MemoryMap
-map_of s = record {
-  area_base = base_of s.live s.shape.user_frames;
-  cache_base = base_of s.live s.shape.user_frames + 64;
-  pool_base = base_of s.live s.shape.user_frames + 128;
-  user_frames = s.shape.user_frames;
-  sectors = s.shape.sectors;
-}
+map_of s = half_map s.live s.shape.user_frames s.shape.sectors
 
 -- its records
 abbrev pub records_held : PlantState → Records

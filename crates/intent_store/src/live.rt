@@ -9,17 +9,12 @@ ghost use Rattle.intent_store.specs.Live.{map_of};
 use crate::commit::commit;
 use crate::frames::{copy_frame, zero_frame};
 use crate::word_store::WordStore;
-use ow_base::{AreaId, Now, Panicked, WordSource};
+use ow_base::{Now, Panicked, WordSource};
 use ow_plant::Plant;
 use record_layouts::{
     AreaView, CacheRec, DescRec, ExitRec, FileRec, HeadRec, MemoryMap, Patch, ProcRec, RecordView,
     RowRec, SigRec, TermRec, Writer,
 };
-
-// The frames of an area and of the cache, which lie before the user frames.
-const AREA_FRAMES: u32 = 64;
-
-const KERNEL_FRAMES: u32 = 128;
 
 // Where the frames of the kernel are that runs on a plant.
 fn live_map(plant: &Plant) -> MemoryMap
@@ -27,17 +22,7 @@ fn live_map(plant: &Plant) -> MemoryMap
     ensures fits { FitsMap result }
 {
     let now = plant.now();
-    let area_base = match plant.live() {
-        AreaId::A => 1,
-        AreaId::B => 1 + KERNEL_FRAMES + now.user_frames,
-    };
-    MemoryMap {
-        area_base,
-        cache_base: area_base + AREA_FRAMES,
-        pool_base: area_base + KERNEL_FRAMES,
-        user_frames: now.user_frames,
-        sectors: now.sectors,
-    }
+    MemoryMap::of_area(plant.live(), now.user_frames, now.sectors)
 }
 
 /// The records of the kernel that runs on a plant, for one that only reads: those of the live area.

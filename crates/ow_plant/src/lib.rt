@@ -3,6 +3,7 @@
 //! on. It has no disk yet, nothing is typed, and a refusal stands for good.
 #![tactic(auto)]
 
+mod dead_memory;
 mod displays;
 mod machine;
 mod points;
@@ -10,11 +11,13 @@ mod refusal;
 mod terminals;
 mod user_memory;
 
+pub use dead_memory::DeadMemory;
 pub use displays::Display;
 pub use machine::Plant;
 pub use ow_base::{
     AreaId, Bank, Came, Fault, KeyByte, Now, PanicRecord, Panicked, Point, Regs, Shape,
 };
+pub use panic_handover::HandOver;
 pub use refusal::Refusal;
 
 /// How a turn in user mode ends: an instruction was made, the slice is over, or the instruction is a

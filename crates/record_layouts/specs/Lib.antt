@@ -3,6 +3,7 @@
 pub mod Unix
 pub mod Calls
 pub mod Choice
+pub mod Least
 pub mod Signals
 pub mod Turn
 pub mod Run
@@ -27,6 +28,9 @@ pub mod Held
 pub mod Pages
 pub mod Decode
 pub mod Sound
+pub mod Left
+pub mod Terminals
+pub mod Halves
 pub mod Reading
 pub mod Tests
 pub mod Fitting

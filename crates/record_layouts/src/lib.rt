@@ -6,6 +6,7 @@
 
 mod area_view;
 mod cache;
+mod dead_proc;
 mod desc;
 mod exit;
 mod file;
@@ -27,6 +28,7 @@ mod writer;
 
 pub use area_view::AreaView;
 pub use cache::{CacheRec, cache_entries_are_spelled_once};
+pub use dead_proc::DeadProc;
 pub use desc::{DescRec, descriptions_are_spelled_once};
 pub use exit::{ExitRec, exits_are_spelled_once};
 pub use file::{FileRec, files_are_spelled_once};

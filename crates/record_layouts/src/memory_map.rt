@@ -1,4 +1,14 @@
 //! Where in memory a kernel's frames are.
+ghost use Rattle.std.specs.Prelude.{◌≡◌, ◌≤◌};
+ghost use Rattle.record_layouts.specs.Halves.{half_map};
+ghost use Rattle.record_layouts.specs.Reading.{FitsMap};
+
+use ow_base::AreaId;
+
+// The frames of an area, which the cache follows, and those of both, which the user frames follow.
+const AREA_FRAMES: u32 = 64;
+
+const KERNEL_FRAMES: u32 = 128;
 
 /// Where in memory the frames of a kernel begin, and how many frames and sectors there are.
 ///
@@ -11,4 +21,25 @@ pub struct MemoryMap {
     pub pool_base: u32,
     pub user_frames: u32,
     pub sectors: u32,
+}
+
+impl MemoryMap {
+    /// Where the frames of the kernel are that has an area, in a memory with at most 384 user frames in each half.
+    pub fn of_area(area: AreaId, user_frames: u32, sectors: u32) -> MemoryMap
+        requires { user_frames ≤ 384 }
+        ensures map { result ≡ half_map area user_frames sectors }
+        ensures fits { FitsMap result }
+    {
+        let area_base = match area {
+            AreaId::A => 1,
+            AreaId::B => 1 + KERNEL_FRAMES + user_frames,
+        };
+        MemoryMap {
+            area_base,
+            cache_base: area_base + AREA_FRAMES,
+            pool_base: area_base + KERNEL_FRAMES,
+            user_frames,
+            sectors,
+        }
+    }
 }

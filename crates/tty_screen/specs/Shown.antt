@@ -5,6 +5,7 @@ use Rattle.ow_base.specs.Screen.{Screen, blank_row}
 use Rattle.record_layouts.specs.declared.term.TermRec.{TermRec}
 use Rattle.record_layouts.specs.declared.row.RowRec.{RowRec}
 use Rattle.record_layouts.specs.Held.{Records}
+pub use Rattle.record_layouts.specs.Terminals.{TerminalDecodes}
 
 -- the number of the row record of a display row
 abbrev pub row_number : (tty top r : ℕ) → ℕ
@@ -52,8 +53,3 @@ pub record IsBlank (records : Records) (tty : ℕ) : Type 0 where
   pub row : cursor_row (records.terms tty) ≡ Some 0
   pub col : cursor_col (records.terms tty) ≡ Some 0
   pub rows : (place : ℕ) → place < 24 → text_of (records.rows (24 * tty + place)) ≡ Some blank_row
-
--- the terminal's record and its 24 rows decode
-pub record TerminalDecodes (records : Records) (tty : ℕ) : Type 0 where
-  pub terminal : is_some (records.terms tty) ≡ true
-  pub rows : (place : ℕ) → place < 24 → is_some (records.rows (24 * tty + place)) ≡ true

@@ -1,0 +1,181 @@
+//! The records and the processes that are left.
+ghost use Rattle.std.specs.Prelude.{◌≡◌, ◌↔◌, ℕ, ◌<◌, ◌≤◌, Some, None, Ok, IfSome, IfNone, IfOk, IfErr};
+ghost use Rattle.record_layouts.specs.declared.proc.ProcRec.{ProcRec};
+ghost use Rattle.record_layouts.specs.Decode.{pid_in};
+ghost use Rattle.record_layouts.specs.Halves.{half_map};
+ghost use Rattle.record_layouts.specs.Left.{dead_proc};
+ghost use Rattle.dead_reader.specs.Cached.{dirty_by};
+ghost use Rattle.dead_reader.specs.Left.{handed_of, records_left};
+ghost use Rattle.dead_reader.specs.Losses.{bits_lost};
+ghost use Rattle.dead_reader.specs.Processes.{IsDead, IsDecoded, IsUnreadable};
+ghost use Rattle.dead_reader.specs.Terminals.{IsInFlight};
+
+use crate::cached::dirty;
+use crate::losses::bits_lost;
+use crate::processes::{Unreadable, pid_in, process_left};
+use crate::terminals::in_flight;
+use ow_plant::DeadMemory;
+use record_layouts::{
+    AreaView, CacheRec, DeadProc, DescRec, ExitRec, FileRec, HeadRec, MemoryMap, ProcRec,
+    RecordView, RowRec, SigRec, TermRec, WordSource,
+};
+
+/// The records that a kernel has left in its area, with a valid open intent laid over them, and the processes by them.
+///
+/// It answers over any words: no number of the dead is used before its range is tested, and no page is in two frames or
+/// two pages in one.
+#[derive(Drop)]
+pub struct DeadView<'d, M> {
+    memory: &'d M,
+}
+
+impl<'d, M: DeadMemory> DeadView<'d, M> {
+    /// A view of the memory of a kernel.
+    pub fn new(memory: &'d M) -> DeadView<'d, M>
+        ensures { result.memory.now ≡ memory.now }
+    {
+        DeadView { memory }
+    }
+}
+
+impl<M: DeadMemory> DeadView<'_, M> {
+    // Its area.
+    fn view(&self) -> AreaView<'_, M>
+        ensures source { result.source.now ≡ self.now.memory.now }
+        ensures map { result.map ≡ half_map (M.dead self.now.memory.now).area (M.dead self.now.memory.now).user_frames (M.dead self.now.memory.now).sectors }
+    {
+        let map = MemoryMap::of_area(
+            self.memory.area(),
+            self.memory.user_frames(),
+            self.memory.sectors(),
+        );
+        AreaView::new(self.memory, map)
+    }
+
+    /// The pid that is live in a slot by the exit records, the least where there are several.
+    pub fn pid_in(&self, slot: u32) -> Option<u32>
+        ensures { result ≡ pid_in (records_left (M.dead self.now.memory.now) (M.words self.now.memory.now)) slot }
+    {
+        pid_in(self, slot)
+    }
+
+    /// The process of a slot as the panic left it. `Ok(None)` comes exactly where no exit record is live in the slot,
+    /// and an `Err` with the first part of the process that cannot be read where not all of them can.
+    pub fn process(&self, slot: u32) -> Result<Option<DeadProc>, Unreadable>
+        requires { slot < 16 }
+        ensures none { result ≡ Ok None ↔ pid_in (records_left (M.dead self.now.memory.now) (M.words self.now.memory.now)) slot ≡ None }
+        ensures found { IfOk result (λ told. IfSome told (IsDead (records_left (M.dead self.now.memory.now) (M.words self.now.memory.now)) (handed_of (M.dead self.now.memory.now).handover) slot)) }
+        ensures each { (process : ProcRec) → IsDecoded (records_left (M.dead self.now.memory.now) (M.words self.now.memory.now)) slot process
+            → result ≡ Ok (Some (dead_proc (records_left (M.dead self.now.memory.now) (M.words self.now.memory.now)) (handed_of (M.dead self.now.memory.now).handover) slot process)) }
+        ensures unreadable { IfErr result (IsUnreadable (records_left (M.dead self.now.memory.now) (M.words self.now.memory.now)) slot) }
+    {
+        process_left(self, &self.memory.handover(), slot)
+    }
+
+    /// The byte that the record of a terminal, 0 or 1, counts as its last and that the device has not written. It is
+    /// `Some` exactly where the terminal's record and its rows decode, and the record counts one byte more than the
+    /// device.
+    pub fn in_flight(&self, tty: u32) -> Option<u8>
+        requires { tty < 2 }
+        ensures found { IfSome result (λ byte. IsInFlight (records_left (M.dead self.now.memory.now) (M.words self.now.memory.now)) tty ((M.dead self.now.memory.now).counts tty) byte) }
+        ensures none { IfNone result ((byte : ℕ) → IsInFlight (records_left (M.dead self.now.memory.now) (M.words self.now.memory.now)) tty ((M.dead self.now.memory.now).counts tty) byte → ⊥) }
+    {
+        in_flight(self, tty, self.memory.count(tty))
+    }
+
+    /// What a process lost beside its core records: 1 where one of its descriptors is closed, 2 where a page of a
+    /// descriptor's file may be lost, 4 where a descriptor's terminal does not decode, 8 where its signals do not, all
+    /// added up. The process is the one that `process` answers for its slot.
+    pub fn resources(&self, p: &DeadProc) -> u32
+        requires { IsDead (records_left (M.dead self.now.memory.now) (M.words self.now.memory.now)) (handed_of (M.dead self.now.memory.now).handover) p.now.slot p.now }
+        ensures { result ≡ bits_lost (records_left (M.dead self.now.memory.now) (M.words self.now.memory.now)) p.now.slot p.now.rec.descs }
+    {
+        bits_lost(self, p.slot, &p.rec.descs)
+    }
+
+    /// The file and the page of an entry of the cache that is dirty, if there is such a file and it keeps the page.
+    pub fn dirty(&self, i: u32) -> Option<(u32, u32)>
+        requires { i < 64 }
+        ensures { result ≡ dirty_by (records_left (M.dead self.now.memory.now) (M.words self.now.memory.now)) ((records_left (M.dead self.now.memory.now) (M.words self.now.memory.now)).caches i) }
+    {
+        dirty(self, i)
+    }
+}
+
+impl<M: DeadMemory> WordSource for DeadView<'_, M> {
+    ghost words = { λ v. M.words v.memory.now };
+
+    fn load(&self, frame: u32, word: u32) -> Option<u32> {
+        self.memory.load(frame, word)
+    }
+}
+
+impl<M: DeadMemory> RecordView for DeadView<'_, M> {
+    ghost use Rattle.record_layouts.specs.Halves.{half_map};
+    ghost use Rattle.record_layouts.specs.Values.{are_values};
+    ghost use Rattle.dead_reader.specs.Left.{records_left};
+
+    ghost records = { λ v. records_left (M.dead v.memory.now) (M.words v.memory.now) };
+
+    ghost values = { λ v. are_values (half_map (M.dead v.memory.now).area (M.dead v.memory.now).user_frames (M.dead v.memory.now).sectors) (M.words v.memory.now) };
+
+    fn head(&self) -> Option<HeadRec> {
+        self.view().head()
+    }
+
+    fn proc(&self, slot: u32) -> Option<ProcRec> {
+        self.view().proc(slot)
+    }
+
+    fn sig(&self, slot: u32) -> Option<SigRec> {
+        self.view().sig(slot)
+    }
+
+    fn desc(&self, i: u32) -> Option<DescRec> {
+        self.view().desc(i)
+    }
+
+    fn file(&self, i: u32) -> Option<FileRec> {
+        self.view().file(i)
+    }
+
+    fn cache(&self, i: u32) -> Option<CacheRec> {
+        self.view().cache(i)
+    }
+
+    fn term(&self, tty: u32) -> Option<TermRec> {
+        self.view().term(tty)
+    }
+
+    fn row(&self, i: u32) -> Option<RowRec> {
+        self.view().row(i)
+    }
+
+    fn exit(&self, pid: u32) -> Option<ExitRec> {
+        self.view().exit(pid)
+    }
+
+    fn owner(&self, frame: u32) -> u32 {
+        self.view().owner(frame)
+    }
+
+    fn cache_owner(&self, i: u32) -> u32 {
+        self.view().cache_owner(i)
+    }
+
+    fn table_word(&self, slot: u32, table: u32, word: u32) -> u32 {
+        self.view().table_word(slot, table, word)
+    }
+
+    fn area_base(&self) -> u32 {
+        self.view().area_base()
+    }
+
+    fn cache_base(&self) -> u32 {
+        self.view().cache_base()
+    }
+
+    fn pool_base(&self) -> u32 {
+        self.view().pool_base()
+    }
+}
