@@ -16,7 +16,7 @@ pub(crate) const FRAME: u32 = 1024;
 /// Contracts see its words and a rest, which no store changes. While `able` holds a store may be made; a refused one takes
 /// it away, and `refusal` tells it. The rest tells by `may_refuse` whether a store may be refused at all. `made` counts
 /// stores; where it is 0 none was made.
-pub(crate) trait WordStore: WordSource {
+pub trait WordStore: WordSource {
     ghost use Rattle.std.specs.Prelude.{Bool, Option, is_some};
     ghost use Rattle.std.specs.Borrow.{GName};
     ghost use Rattle.ow_plant.specs.declared.refusal.Refusal.{Refusal};
@@ -52,7 +52,7 @@ pub(crate) trait WordStore: WordSource {
 }
 
 /// Stores the word of this number of the area that begins at frame `base`.
-pub(crate) fn store_area<W: WordStore>(
+pub fn store_area<W: WordStore>(
     store: &mut W,
     base: u32,
     number: u32,

@@ -8,6 +8,7 @@ use Rattle.ow_base.specs.declared.worlds.Program.{Program}
 use Rattle.ow_base.specs.declared.worlds.Start.{Start as Started}
 use Rattle.record_layouts.specs.declared.desc.DescRec.{DescRec}
 use Rattle.record_layouts.specs.declared.proc.ProcRec.{ProcRec}
+use Rattle.record_layouts.specs.declared.places.RecordId.TheVariants as id
 use Rattle.record_layouts.specs.declared.sig.SigRec.{SigRec}
 use Rattle.record_layouts.specs.Decode.{next_by, slot_by}
 use Rattle.record_layouts.specs.Held.{Records}
@@ -79,8 +80,10 @@ module _ (r : Records) (load : Load) (is : IsBootable load) (booted : IsBooted r
   -- each record of a process is that of a start, or free
   process_is : (slot : ℕ) (process : ProcRec) → r.procs slot ≡ Some process → (slot < 16) × (process ≡ booted_process load slot)
   process_is slot process there = elim (cases_lt slot 16) [
-    | inl low ↦ let e = booted.procs slot low in (low, cc (e, there))
-    | inr past ↦ let e = booted.no_proc slot past in absurd (cc (e, there))
+    | inl low ↦ let e = booted.records (id.Proc slot) low in (low, cc (e, there))
+    | inr past ↦
+        let out : nat_lt slot 16 ≡ false = grind (arith, nat_tests, past) in
+        let e = booted.no_record (id.Proc slot) out in absurd (cc (e, there))
   ]
 
   pub in_started : (slot : ℕ) (process : ProcRec) → IsIn r slot process → IsStartedIn load slot process
@@ -110,7 +113,7 @@ module _ (r : Records) (load : Load) (is : IsBootable load) (booted : IsBooted r
       ]
 
   pub slot_live : (pid : ℕ) → 1 ≤ pid → pid ≤ length load.starts → slot_by (r.exits pid) ≡ Some (pid - 1)
-  slot_live pid low high = ap slot_by (booted.exits pid low (omega (arith, is.most_starts)) ∙ ap Some (exit_live load pid high))
+  slot_live pid low high = ap slot_by (booted.records (id.Exit pid) (low, omega (arith, is.most_starts)) ∙ ap Some (exit_live load pid high))
 
   pub slot_none : (pid : ℕ) → lies_between 1 (length load.starts) pid ≡ false → slot_by (r.exits pid) ≡ None
   slot_none pid out = elim (cases_Bool (lies_between 1 256 pid)) [
@@ -118,8 +121,8 @@ module _ (r : Records) (load : Load) (is : IsBootable load) (booted : IsBooted r
         let low : 1 ≤ pid = grind (arith, nat_tests) in
         let high : pid ≤ 256 = grind (arith, nat_tests) in
         let past : length load.starts < pid = grind (arith, nat_tests) in
-        ap slot_by (booted.exits pid low high ∙ ap Some (exit_unused load pid past))
-    | inr beyond ↦ ap slot_by (booted.no_exit pid beyond)
+        ap slot_by (booted.records (id.Exit pid) (low, high) ∙ ap Some (exit_unused load pid past))
+    | inr beyond ↦ ap slot_by (booted.no_record (id.Exit pid) beyond)
   ]
 
   pub slot_found : (pid slot : ℕ) → slot_by (r.exits pid) ≡ Some slot → (pid ≡ slot + 1) × (slot < length load.starts)
@@ -139,7 +142,7 @@ module _ (r : Records) (load : Load) (is : IsBootable load) (booted : IsBooted r
         started_record slot there.0,
         record {
           within = omega (arith, is.most_starts);
-          there = booted.procs slot (omega (arith, is.most_starts))
+          there = booted.records (id.Proc slot) (omega (arith, is.most_starts))
               ∙ ap Some (process_there load slot there.0 there.1);
           live = refl;
         },
@@ -148,21 +151,21 @@ module _ (r : Records) (load : Load) (is : IsBootable load) (booted : IsBooted r
 
   used : (pid : ℕ) → 1 ≤ pid → pid ≤ 256 → is_used (r.exits pid) ≡ nat_lt pid (next_by r.head)
   used pid low high =
-      let next : next_by r.head ≡ length load.starts + 1 = ap next_by booted.head in
+      let next : next_by r.head ≡ length load.starts + 1 = ap next_by (booted.records id.Head tt) in
       elim (cases_lt (length load.starts) pid) [
         | inl past ↦
             let out : nat_lt pid (length load.starts + 1) ≡ false = grind (arith, nat_tests) in
-            rw (next, out) (ap is_used (booted.exits pid low high ∙ ap Some (exit_unused load pid past)))
+            rw (next, out) (ap is_used (booted.records (id.Exit pid) (low, high) ∙ ap Some (exit_unused load pid past)))
         | inr within ↦
             let here : nat_lt pid (length load.starts + 1) ≡ true = grind (arith, nat_tests) in
-            rw (next, here) (ap is_used (booted.exits pid low high ∙ ap Some (exit_live load pid within)))
+            rw (next, here) (ap is_used (booted.records (id.Exit pid) (low, high) ∙ ap Some (exit_live load pid within)))
       ]
 
   signals_there : (slot : ℕ) → slot < length load.starts → (signals : SigRec) × (r.sigs slot ≡ Some signals) × (signals.pid ≡ slot + 1)
   unfolding booted_signals
   signals_there slot low =
       let here : nat_lt slot (length load.starts) ≡ true = grind (arith, nat_tests) in
-      (booted_signals load slot, booted.sigs slot (omega (arith, is.most_starts)), rw here refl)
+      (booted_signals load slot, booted.records (id.Sig slot) (omega (arith, is.most_starts)), rw here refl)
 
   pub are_numbered : AreNumbered r
   are_numbered = record {
@@ -183,7 +186,7 @@ module _ (r : Records) (load : Load) (is : IsBootable load) (booted : IsBooted r
         (there.0, there.1, there.2 ∙ sym (ap (λ (p : ProcRec). p.pid) started.is));
     ended = λ slot process there e. absurd (omega (arith, (state_small slot process there).0, e));
     one_ended = λ slot other process another there it e f same. absurd (omega (arith, (state_small slot process there).0, e));
-    parents = λ slot process there. omega (arith, (state_small slot process there).1, ap next_by booted.head);
+    parents = λ slot process there. omega (arith, (state_small slot process there).1, ap next_by (booted.records id.Head tt));
   }
 
   described : (slot : ℕ) (process : ProcRec) → IsIn r slot process → (fd : ℕ) → fd < 8 → slice_index process.descs fd ≢ 0
@@ -194,7 +197,7 @@ module _ (r : Records) (load : Load) (is : IsBootable load) (booted : IsBooted r
       let word : slice_index process.descs fd ≡ slot + 1 = descs ∙ named_one (slot + 1) fd low (λ e. some (descs ∙ e)) in
       let number : slice_index process.descs fd - 1 ≡ slot = omega (arith, word) in
       let on = described_start load slot started.low in
-      let there = booted.descs slot (omega (arith, started.low, is.most_starts)) in
+      let there = booted.records (id.Desc slot) (omega (arith, started.low, is.most_starts)) in
       (booted_description load slot, rw number there, λ e. absurd (omega (arith, ap (λ (d : DescRec). d.object) on.2, e)))
 
   pub are_in_calls : AreInCalls r
@@ -209,7 +212,9 @@ module _ (r : Records) (load : Load) (is : IsBootable load) (booted : IsBooted r
   pub are_on_terminals : AreOnTerminals r
   are_on_terminals = record {
     each = λ slot process inside fd low some. elim (cases_lt (slice_index process.descs fd - 1) 32) [
-      | inl there ↦ rw (booted.descs (slice_index process.descs fd - 1) there) (not_file load (slice_index process.descs fd - 1))
-      | inr past ↦ rw (booted.no_desc (slice_index process.descs fd - 1) past) tt
+      | inl there ↦ rw (booted.records (id.Desc (slice_index process.descs fd - 1)) there) (not_file load (slice_index process.descs fd - 1))
+      | inr past ↦
+          let out : nat_lt (slice_index process.descs fd - 1) 32 ≡ false = grind (arith, nat_tests, past) in
+          rw (booted.no_record (id.Desc (slice_index process.descs fd - 1)) out) tt
     ];
   }

@@ -23,7 +23,7 @@ use Rattle.kernel_traps.specs.BootState.{IsBooted}
 use Rattle.kernel_traps.specs.Plants.{AreTerminalsSound, IsHeldSound, IsOfDevice, IsSound, tapes_of, unix_at}
 use Rattle.kernel_traps.specs.Turning.{IsSameMachine}
 use Rattle.kernel_traps.proofs.BootFrames.{clean_there, is_mapped_there}
-use Rattle.kernel_traps.proofs.BootHeld.{IsBuilt, booted, of_shape, same_rest, words_booted}
+use Rattle.kernel_traps.proofs.BootHeld.{IsBuilt, booted, of_shape, rest_same, words_booted}
 use Rattle.kernel_traps.proofs.BootNumbers.{are_in_calls, are_in_writes, are_numbered, are_on_terminals, in_started}
 use Rattle.kernel_traps.proofs.BootPages.{start_loadable}
 use Rattle.kernel_traps.proofs.BootStores.{booting_base}
@@ -31,15 +31,15 @@ use Rattle.kernel_traps.proofs.BootUnix.{unix_same}
 
 module _ (r : Records) (load : Load) (is : IsBootable load) (b : IsBooted r load) where
   are_complete : AreComplete r
-  are_complete id.Head there = ap is_some b.head
-  are_complete (id.Proc slot) low = ap is_some (b.procs slot low)
-  are_complete (id.Sig slot) low = ap is_some (b.sigs slot low)
-  are_complete (id.Desc index) low = ap is_some (b.descs index low)
-  are_complete (id.File index) low = ap is_some (b.files index low)
-  are_complete (id.Cache index) low = ap is_some (b.caches index low)
-  are_complete (id.Term tty) low = ap is_some (b.terms tty low)
-  are_complete (id.Row index) low = ap is_some (b.rows index low)
-  are_complete (id.Exit pid) within = ap is_some (b.exits pid within.0 within.1)
+  are_complete id.Head there = ap is_some (b.records id.Head there)
+  are_complete (id.Proc slot) there = ap is_some (b.records (id.Proc slot) there)
+  are_complete (id.Sig slot) there = ap is_some (b.records (id.Sig slot) there)
+  are_complete (id.Desc index) there = ap is_some (b.records (id.Desc index) there)
+  are_complete (id.File index) there = ap is_some (b.records (id.File index) there)
+  are_complete (id.Cache index) there = ap is_some (b.records (id.Cache index) there)
+  are_complete (id.Term tty) there = ap is_some (b.records (id.Term tty) there)
+  are_complete (id.Row index) there = ap is_some (b.records (id.Row index) there)
+  are_complete (id.Exit pid) there = ap is_some (b.records (id.Exit pid) there)
 
   mapped : (slot : ℕ) (process : ProcRec) → IsIn r slot process → is_mapped r slot process ≡ true
   mapped slot process inside =
@@ -68,9 +68,9 @@ module _ (r : Records) (load : Load) (is : IsBootable load) (b : IsBooted r load
   -- the terminals show blank screens
   is_blank : (tty : ℕ) → tty < 2 → IsBlank r tty
   is_blank tty low = record {
-    row = rw (b.terms tty low) refl;
-    col = rw (b.terms tty low) refl;
-    rows = λ place few. rw (b.rows (24 * tty + place) (omega arith)) refl;
+    row = rw (b.records (id.Term tty) low) refl;
+    col = rw (b.records (id.Term tty) low) refl;
+    rows = λ place few. rw (b.records (id.Row (24 * tty + place)) (omega arith)) refl;
   }
 
 -- a device on which nothing was written is as its record says
@@ -82,9 +82,9 @@ silent_sound r tty room device silent shown = rw silent (record { counted = refl
 silent_bytes : (device : Device) (steps room : ℕ) → device ≡ silent_device room → length device.tape ≤ 16 * steps
 silent_bytes device steps room silent = rw silent (omega arith)
 
-module _ (load : Load) (old new : PlantState) (b : IsBuilt load old new) where
+module _ (load : Load) (old between new : PlantState) (b : IsBuilt load old between new) where
   rest : rest_of new ≡ rest_of old
-  rest = same_rest load old new b
+  rest = rest_same load old between new b
 
   pub no_steps : new.steps ≡ 0
   no_steps = ap (λ (s : PlantState). s.steps) rest ∙ b.ready.no_steps
@@ -97,7 +97,7 @@ module _ (load : Load) (old new : PlantState) (b : IsBuilt load old new) where
 
   device : (tty : ℕ) → tty_of new tty ≡ silent_device (16 * new.shape.budget)
   device tty =
-      let budget : load.shape.budget ≡ new.shape.budget = sym (ap (λ (s : Shape). s.budget) (of_shape load old new b)) in
+      let budget : load.shape.budget ≡ new.shape.budget = sym (ap (λ (s : Shape). s.budget) (of_shape load old between new b)) in
       let zeroth : new.tty0 ≡ silent_device (16 * new.shape.budget) =
       ap (λ (s : PlantState). s.tty0) rest ∙ b.ready.tty0 ∙ ap (λ (n : ℕ). silent_device (16 * n)) budget in
       let other : new.tty1 ≡ silent_device (16 * new.shape.budget) =
@@ -120,7 +120,7 @@ module _ (load : Load) (old new : PlantState) (b : IsBuilt load old new) where
       tape zeroth other false false = refl
 
   is_booted : IsBooted (records_held new) load
-  is_booted = booted load old new b
+  is_booted = booted load old between new b
 
   is_held : IsHeldSound new
   is_held = record {
@@ -135,7 +135,7 @@ module _ (load : Load) (old new : PlantState) (b : IsBuilt load old new) where
   are_terminals : AreTerminalsSound new new.steps
   are_terminals = record {
     records = λ tty low.
-        rw (is_booted.terms tty low)
+        rw (is_booted.records (id.Term tty) low)
         (silent_sound (records_held new) tty (16 * new.shape.budget) (tty_of new tty) (device tty) (blank_shows (is_blank
         (records_held new) load b.is is_booted tty low)));
     bytes = λ tty low. silent_bytes (tty_of new tty) new.steps (16 * new.shape.budget) (device tty);
@@ -145,7 +145,7 @@ module _ (load : Load) (old new : PlantState) (b : IsBuilt load old new) where
   sound_booted = record {
     held = is_held;
     no_trap_runs = outside;
-    served = rw (is_booted.head, outside, b.last.first) (omega arith);
+    served = rw (is_booted.records id.Head tt, outside, b.last.first) (omega arith);
     terminals = are_terminals;
     budget = omega (arith, no_steps);
     in_user = λ inside. absurd (cc (inside, idle));
@@ -155,7 +155,7 @@ module _ (load : Load) (old new : PlantState) (b : IsBuilt load old new) where
   unfolding unix_at
   started_booted =
       rw (idle, no_steps, b.last.first)
-      (unix_same (records_held new) (words_of new.memory) load b.is is_booted (words_booted load old new b) (tapes_of new) silent)
+      (unix_same (records_held new) (words_of new.memory) load b.is is_booted (words_booted load old between new b) (tapes_of new) silent)
 
   pub same_booted : IsSameMachine old new
   same_booted = record {

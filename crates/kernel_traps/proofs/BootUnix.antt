@@ -1,5 +1,5 @@
 -- A kernel that has booted stands for the state that its load begins with.
-use Rattle.std.proofs.Common.{◌≡◌, ℕ, zero, suc, ◌+◌, ◌-◌, ◌%◌, ◌^◌, ◌<◌, ◌≤◌, true, false, nat_le, ◌==◌, List, [], length, map, replicate, slice_get, Option, Some, None, option_and_then, refl, sym, ap, subst, ◌∙◌, inl, inr, arith}
+use Rattle.std.proofs.Common.{◌≡◌, ℕ, zero, suc, ◌+◌, ◌-◌, ◌%◌, ◌^◌, ◌<◌, ◌≤◌, true, false, nat_le, nat_lt, ◌==◌, List, [], length, map, replicate, slice_get, Option, Some, None, option_and_then, refl, sym, ap, subst, ◌∙◌, inl, inr, arith}
 use Rattle.std.proofs.lemmas.Bool.{cases_Bool, cases_lt}
 use Rattle.std.proofs.lemmas.Bool.Decides.{nat_tests}
 use Rattle.std.proofs.lemmas.Option.{slice_get_past}
@@ -11,6 +11,7 @@ use Rattle.ow_base.specs.declared.worlds.Program.{Program}
 use Rattle.ow_base.specs.declared.worlds.Start.{Start as Started}
 use Rattle.record_layouts.specs.declared.head.HeadRec.{HeadRec}
 use Rattle.record_layouts.specs.declared.proc.ProcRec.{ProcRec}
+use Rattle.record_layouts.specs.declared.places.RecordId.TheVariants as id
 use Rattle.record_layouts.specs.Decode.{InKernel, decodes, description_by, descriptor_of, ended_of, handlers_of, is_ended_as, is_number, is_pending, last_by, next_by, pid_in, process_at, process_in, process_of, processes_of, slot_by, status_by, terminal_by, unix_of}
 use Rattle.record_layouts.specs.Held.{Records}
 use Rattle.record_layouts.specs.Pages.{is_mapped, pages_of}
@@ -116,7 +117,7 @@ module _ (r : Records) (words : WordMap) (load : Load) (is : IsBootable load) (b
   signals_none : (slot : ℕ) → slot < 16 → (handlers_of (r.sigs slot) ≡ replicate 15 0) × (is_pending (r.sigs slot) ≡ (λ signal. false))
   unfolding booted_signals
   signals_none slot low =
-      let there = booted.sigs slot low in
+      let there = booted.records (id.Sig slot) low in
       (ap handlers_of there, rw there (λ i signal. no_bit signal i))
 
   module _ (slot : ℕ) (program : Program) (low : slot < length load.starts) (found : program_in load slot ≡ Some program) where
@@ -139,13 +140,13 @@ module _ (r : Records) (words : WordMap) (load : Load) (is : IsBootable load) (b
         let mapped : is_mapped r slot (started_record slot program) ≡ true =
         is_mapped_there slot program loadable r (pages_before load slot) booted.base booted.pool (booted.tables slot program low found) in
         let same : (slot + 1 == slot + 1) ≡ true = grind (arith, nat_tests) in
-        rw (mapped, same, booted.head) refl
+        rw (mapped, same, (booted.records id.Head tt)) refl
 
     pub process_live : process_at r words (slot + 1) ≡ started_as load (slot + 1)
     unfolding process_at
     process_live =
         let less : slot + 1 - 1 ≡ slot = omega arith in
-        let there : r.procs slot ≡ Some (started_record slot program) = booted.procs slot within ∙ ap Some (process_there load slot program found) in
+        let there : r.procs slot ≡ Some (started_record slot program) = booted.records (id.Proc slot) within ∙ ap Some (process_there load slot program found) in
         let same : (slot + 1 == slot + 1) ≡ true = grind (arith, nat_tests) in
         ap (λ o. process_in r words (slot + 1) o) (slot_live r load is booted (slot + 1) (omega arith) (omega arith) ∙ ap Some less)
         ∙ rw (pid_there slot low, same, there, decodes_there) (ap Some process_is)
@@ -215,15 +216,17 @@ module _ (r : Records) (words : WordMap) (load : Load) (is : IsBootable load) (b
   unfolding in_use started_description booted_description
   description_same number = elim (cases_lt number (length load.starts)) [
     | inl low ↦ rw (description_named number low)
-        (ap description_by (booted.descs number (omega (arith, is.most_starts))) ∙ description_opened (slice_get load.starts number))
+        (ap description_by (booted.records (id.Desc number) (omega (arith, is.most_starts))) ∙ description_opened (slice_get load.starts number))
     | inr past ↦ rw (description_unnamed number past, slice_get_past load.starts number past) refl
   ]
 
   -- nothing is written, and no process has a status
   terminal_same : (tapes : ℕ → List ℕ) → ((tty : ℕ) → tapes tty ≡ []) → (tty : ℕ) → terminal_by (tapes tty) (r.terms tty) ≡ silent_terminal
   terminal_same tapes silent tty = elim (cases_lt tty 2) [
-    | inl low ↦ rw (silent tty, booted.terms tty low) refl
-    | inr past ↦ rw (silent tty, booted.no_term tty past) refl
+    | inl low ↦ rw (silent tty, booted.records (id.Term tty) low) refl
+    | inr past ↦
+        let out : nat_lt tty 2 ≡ false = grind (arith, nat_tests, past) in
+        rw (silent tty, booted.no_record (id.Term tty) out) refl
   ]
 
   never_status : (pid : ℕ) → status_by (Some (booted_exit load pid)) ≡ None
@@ -235,8 +238,8 @@ module _ (r : Records) (words : WordMap) (load : Load) (is : IsBootable load) (b
     | inl inside ↦
         let low : 1 ≤ pid = grind (arith, nat_tests) in
         let high : pid ≤ 256 = grind (arith, nat_tests) in
-        rw (booted.exits pid low high) (never_status pid)
-    | inr out ↦ rw (booted.no_exit pid out) refl
+        rw (booted.records (id.Exit pid) (low, high)) (never_status pid)
+    | inr out ↦ rw (booted.no_record (id.Exit pid) out) refl
   ]
 
   pub unix_same : (tapes : ℕ → List ℕ) → ((tty : ℕ) → tapes tty ≡ []) → unix_of r words tapes InKernel 0 0 ≡ start_of load
@@ -248,8 +251,8 @@ module _ (r : Records) (words : WordMap) (load : Load) (is : IsBootable load) (b
     files = λ _. None;
     terminals = λ tty. terminal_same tapes silent tty i;
     exits = λ pid. status_none pid i;
-    next_pid = ap next_by booted.head i;
-    last_pid = ap (λ (head : Option HeadRec). last_by head InKernel) booted.head i;
+    next_pid = ap next_by (booted.records id.Head tt) i;
+    last_pid = ap (λ (head : Option HeadRec). last_by head InKernel) (booted.records id.Head tt) i;
     steps = 0;
     traps = 0;
     position = AtKernel;

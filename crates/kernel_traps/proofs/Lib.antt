@@ -18,6 +18,8 @@ pub mod UserTurns
 pub mod Refusals
 pub mod BootStores
 pub mod BootRecords
+pub mod BootSets
+pub mod BootReads
 pub mod BootPages
 pub mod BootReady
 pub mod BootTables

@@ -5,8 +5,11 @@ use Rattle.ow_base.specs.World.{page_count}
 use Rattle.ow_base.specs.declared.worlds.Load.{Load}
 use Rattle.ow_base.specs.declared.worlds.Program.{Program}
 use Rattle.ow_base.specs.declared.worlds.Start.{Start as Started}
-use Rattle.record_layouts.specs.Unix.{is_within, started_bank}
-use Rattle.record_layouts.specs.Held.{Held}
+use Rattle.record_layouts.specs.Unix.{started_bank}
+use Rattle.record_layouts.specs.declared.places.RecordId.{RecordId}
+use Rattle.record_layouts.specs.declared.places.RecordId.TheVariants as id
+use Rattle.record_layouts.specs.declared.patch.AnyRec.{AnyRec}
+use Rattle.record_layouts.specs.declared.patch.AnyRec.TheVariants as any
 use Rattle.record_layouts.specs.declared.head.HeadRec.{HeadRec}
 use Rattle.record_layouts.specs.declared.proc.ProcRec.{ProcRec}
 use Rattle.record_layouts.specs.declared.sig.SigRec.{SigRec}
@@ -111,41 +114,14 @@ blank_row_record place = record { place = place; text = blank_row }
 unfoldable pub booted_exit : Load → (pid : ℕ) → ExitRec
 booted_exit load pid = if nat_le pid (length load.starts) then record { state = 1; value = pid - 1 } else record { state = 0; value = 0 }
 
--- so many records of a kind are set, from a first one on
-unfoldable pub set_from : {A : Type 0} → (first count : ℕ) → (value : ℕ → A) → (ℕ → Option A) → ℕ → Option A
-set_from first count value old i = if is_within first count i then Some (value i) else old i
-
-module _ {Rest : Type 0} (h : Held Rest) where
-  abbrev pub with_processes : Load → (count : ℕ) → Held Rest
-  with_processes load count = record h { records = record h.records { procs = set_from 0 count (booted_process load) h.records.procs } }
-
-  abbrev pub with_signals : Load → (count : ℕ) → Held Rest
-  with_signals load count = record h { records = record h.records { sigs = set_from 0 count (booted_signals load) h.records.sigs } }
-
-  abbrev pub with_descriptions : Load → (count : ℕ) → Held Rest
-  with_descriptions load count = record h { records = record h.records { descs = set_from 0 count (booted_description load) h.records.descs } }
-
-  abbrev pub with_exits : Load → (count : ℕ) → Held Rest
-  with_exits load count = record h { records = record h.records { exits = set_from 1 count (booted_exit load) h.records.exits } }
-
-  abbrev pub with_no_files : (count : ℕ) → Held Rest
-  with_no_files count = record h { records = record h.records { files = set_from 0 count (λ i. unused_file) h.records.files } }
-
-  abbrev pub with_empty_caches : (count : ℕ) → Held Rest
-  with_empty_caches count = record h { records = record h.records { caches = set_from 0 count (λ i. empty_entry) h.records.caches } }
-
-  abbrev pub with_silent_terminals : (count : ℕ) → Held Rest
-  with_silent_terminals count = record h { records = record h.records { terms = set_from 0 count silent_record h.records.terms } }
-
-  abbrev pub with_blank_rows : (count : ℕ) → Held Rest
-  with_blank_rows count = record h { records = record h.records { rows = set_from 0 count blank_row_record h.records.rows } }
-
-  abbrev pub with_head : Load → Held Rest
-  with_head load = record h { records = record h.records { head = Some (booted_head load) } }
-
--- all records are set
-abbrev pub with_booted : {Rest : Type 0} → Held Rest → Load → Held Rest
-with_booted h load =
-    let processes = with_exits (with_descriptions (with_signals (with_processes h load 16) load 16) load 32) load 256 in
-    let devices = with_blank_rows (with_silent_terminals (with_empty_caches (with_no_files processes 32) 64) 2) 48 in
-    with_head devices load
+-- the record with which a new kernel begins, by its id
+abbrev pub booted_record : Load → RecordId → AnyRec
+booted_record load id.Head = any.Head (booted_head load)
+booted_record load (id.Proc slot) = any.Proc (booted_process load slot)
+booted_record load (id.Sig slot) = any.Sig (booted_signals load slot)
+booted_record load (id.Desc index) = any.Desc (booted_description load index)
+booted_record load (id.File index) = any.File unused_file
+booted_record load (id.Cache index) = any.Cache empty_entry
+booted_record load (id.Term tty) = any.Term (silent_record tty)
+booted_record load (id.Row place) = any.Row (blank_row_record place)
+booted_record load (id.Exit pid) = any.Exit (booted_exit load pid)

@@ -1,8 +1,8 @@
--- A plant that boots, and what its stores make of the words of its area.
-use Rattle.std.specs.Prelude.{◌≡◌, ℕ, ◌+◌, ◌-◌, ◌≤◌, if◌then◌else◌, List, All, None, slice_index}
+-- A plant that boots.
+use Rattle.std.specs.Prelude.{◌≡◌, ◌≤◌, All, None}
 use Rattle.ow_base.specs.declared.machine.AreaId.TheVariants.{A}
 use Rattle.phys_memory.specs.Memory.{words_of}
-use Rattle.record_layouts.specs.Overlay.{Area, area_at, lies_in}
+use Rattle.record_layouts.specs.Overlay.{area_at}
 use Rattle.ow_plant.specs.State.{PlantState, IsArmed}
 use Rattle.ow_plant.specs.declared.points.PanicPoint.{PanicPoint}
 
@@ -18,8 +18,3 @@ pub record IsBooting (s : PlantState) : Type 0 where
   pub able : s.refusal ≡ None
   pub of_area : s.live ≡ A
   pub shut : area_at (words_of s.memory) 1 16 ≡ 0
-
--- an area with the first words of a list, so many, in their places from a number on
-unfoldable pub with_first_words : Area → (begin count : ℕ) → (words : List ℕ) → Area
-with_first_words area begin count words number =
-    if lies_in begin (begin + count) number then slice_index words (number - begin) else area number

@@ -11,15 +11,11 @@ ghost use Rattle.record_layouts.specs.Cache.{FitsCache};
 ghost use Rattle.record_layouts.specs.Term.{FitsTerm};
 ghost use Rattle.record_layouts.specs.Row.{FitsRow};
 ghost use Rattle.process_table.specs.Patches.{blank_bank as empty_bank};
-ghost use Rattle.intent_store.specs.Live.{held_of};
 ghost use Rattle.kernel_traps.specs.Boot.{IsBootable, IsLoadable, program_in};
-ghost use Rattle.kernel_traps.specs.BootStores.{IsBooting};
 ghost use Rattle.kernel_traps.specs.BootRecords.{booted_description, booted_exit, booted_head, booted_process, booted_signals, started_record as record_of_start, free_process, unused_file, empty_entry, silent_record, blank_row_record};
-ghost use Rattle.kernel_traps.specs.BootRecords.{with_booted, with_descriptions, with_empty_caches, with_exits, with_head, with_no_files, with_processes, with_blank_rows, with_signals, with_silent_terminals};
 
-use super::stores::set_record;
+use super::blueprint::Blueprint;
 use ow_base::{Bank, Load, Program, Regs};
-use ow_plant::Plant;
 use record_layouts::{
     AnyRec, CacheRec, DescRec, ExitRec, FileRec, HeadRec, ProcRec, RecordId, RowRec, SigRec,
     TermRec,
@@ -38,21 +34,6 @@ const STACK_POINTER: u32 = 2;
 
 // What a blank row has in each place.
 const BLANK: u8 = 32;
-
-// How many records of each kind there are.
-const SLOTS: u32 = 16;
-
-const DESCRIPTIONS: u32 = 32;
-
-const PIDS: u32 = 256;
-
-const FILES: u32 = 32;
-
-const ENTRIES: u32 = 64;
-
-const TERMINALS: u32 = 2;
-
-const ROWS: u32 = 48;
 
 /// How many pages so many words need.
 pub(crate) fn pages_for(words: &[u32]) -> u32
@@ -284,132 +265,25 @@ fn blank_row(place: u32) -> RowRec
     }
 }
 
-// Sets the record of each slot.
-fn set_processes(plant: &mut Plant, load: &Load)
-    requires booting { IsBooting plant.old }
-    requires load { IsBootable load.now }
-    ensures held { held_of plant.new ≡ with_processes (held_of plant.old) load.now 16 }
-    ensures booting { IsBooting plant.new }
-{
-    for slot in 0..SLOTS {
-        set_record(
-            plant,
-            RecordId::Proc(slot),
-            &AnyRec::Proc(process_record(load, slot)),
-        );
-    }
-}
+impl Blueprint for Load {
+    ghost use Rattle.kernel_traps.specs.Boot.{IsBootable};
+    ghost use Rattle.kernel_traps.specs.BootRecords.{booted_record};
 
-// Sets the signals of each slot.
-fn set_signals(plant: &mut Plant, load: &Load)
-    requires booting { IsBooting plant.old }
-    requires load { IsBootable load.now }
-    ensures held { held_of plant.new ≡ with_signals (held_of plant.old) load.now 16 }
-    ensures booting { IsBooting plant.new }
-{
-    for slot in 0..SLOTS {
-        set_record(
-            plant,
-            RecordId::Sig(slot),
-            &AnyRec::Sig(signal_record(load, slot)),
-        );
-    }
-}
+    ghost record_of = { booted_record };
 
-// Sets all descriptions.
-fn set_descriptions(plant: &mut Plant, load: &Load)
-    requires booting { IsBooting plant.old }
-    requires load { IsBootable load.now }
-    ensures held { held_of plant.new ≡ with_descriptions (held_of plant.old) load.now 32 }
-    ensures booting { IsBooting plant.new }
-{
-    for index in 0..DESCRIPTIONS {
-        set_record(
-            plant,
-            RecordId::Desc(index),
-            &AnyRec::Desc(description_record(load, index)),
-        );
-    }
-}
+    ghost stands = { IsBootable };
 
-// Sets what has become of each pid.
-fn set_exits(plant: &mut Plant, load: &Load)
-    requires booting { IsBooting plant.old }
-    requires load { IsBootable load.now }
-    ensures held { held_of plant.new ≡ with_exits (held_of plant.old) load.now 256 }
-    ensures booting { IsBooting plant.new }
-{
-    for before in 0..PIDS {
-        set_record(
-            plant,
-            RecordId::Exit(before + 1),
-            &AnyRec::Exit(exit_record(load, before + 1)),
-        );
+    fn record(&self, id: RecordId) -> AnyRec {
+        match id {
+            RecordId::Head => AnyRec::Head(head_record(self)),
+            RecordId::Proc(slot) => AnyRec::Proc(process_record(self, slot)),
+            RecordId::Sig(slot) => AnyRec::Sig(signal_record(self, slot)),
+            RecordId::Desc(index) => AnyRec::Desc(description_record(self, index)),
+            RecordId::File(_) => AnyRec::File(no_file()),
+            RecordId::Cache(_) => AnyRec::Cache(empty_cache()),
+            RecordId::Term(tty) => AnyRec::Term(silent_terminal(tty)),
+            RecordId::Row(place) => AnyRec::Row(blank_row(place)),
+            RecordId::Exit(pid) => AnyRec::Exit(exit_record(self, pid)),
+        }
     }
-}
-
-// Sets all files: there is none.
-fn set_files(plant: &mut Plant)
-    requires booting { IsBooting plant.old }
-    ensures held { held_of plant.new ≡ with_no_files (held_of plant.old) 32 }
-    ensures booting { IsBooting plant.new }
-{
-    for index in 0..FILES {
-        set_record(plant, RecordId::File(index), &AnyRec::File(no_file()));
-    }
-}
-
-// Sets the entries of the page cache: each is empty.
-fn set_caches(plant: &mut Plant)
-    requires booting { IsBooting plant.old }
-    ensures held { held_of plant.new ≡ with_empty_caches (held_of plant.old) 64 }
-    ensures booting { IsBooting plant.new }
-{
-    for entry in 0..ENTRIES {
-        set_record(plant, RecordId::Cache(entry), &AnyRec::Cache(empty_cache()));
-    }
-}
-
-// Sets the terminals: nothing is written on them.
-fn set_terminals(plant: &mut Plant)
-    requires booting { IsBooting plant.old }
-    ensures held { held_of plant.new ≡ with_silent_terminals (held_of plant.old) 2 }
-    ensures booting { IsBooting plant.new }
-{
-    for tty in 0..TERMINALS {
-        set_record(
-            plant,
-            RecordId::Term(tty),
-            &AnyRec::Term(silent_terminal(tty)),
-        );
-    }
-}
-
-// Sets the rows of both terminals: each is blank.
-fn set_rows(plant: &mut Plant)
-    requires booting { IsBooting plant.old }
-    ensures held { held_of plant.new ≡ with_blank_rows (held_of plant.old) 48 }
-    ensures booting { IsBooting plant.new }
-{
-    for place in 0..ROWS {
-        set_record(plant, RecordId::Row(place), &AnyRec::Row(blank_row(place)));
-    }
-}
-
-/// Sets all records.
-pub(crate) fn set_records(plant: &mut Plant, load: &Load)
-    requires booting { IsBooting plant.old }
-    requires load { IsBootable load.now }
-    ensures held { held_of plant.new ≡ with_booted (held_of plant.old) load.now }
-    ensures booting { IsBooting plant.new }
-{
-    set_processes(plant, load);
-    set_signals(plant, load);
-    set_descriptions(plant, load);
-    set_exits(plant, load);
-    set_files(plant);
-    set_caches(plant);
-    set_terminals(plant);
-    set_rows(plant);
-    set_record(plant, RecordId::Head, &AnyRec::Head(head_record(load)));
 }
