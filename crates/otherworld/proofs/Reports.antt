@@ -17,10 +17,10 @@ use Rattle.ow_base.specs.declared.worlds.Ending.{Ending}
 use Rattle.ow_plant.specs.State.{PlantState, Terminal as Device}
 use Rattle.intent_store.specs.Live.{records_held}
 use Rattle.kernel_traps.specs.Plants.{unix_at, IsSound, IsOfDevice}
-use Rattle.otherworld.specs.declared.ow_report.Word.{Word}
+use Rattle.otherworld.specs.declared.ow_report.Token.{Token}
 use Rattle.otherworld.specs.declared.ow_report.Exit.{Exit}
 use Rattle.otherworld.specs.declared.ow_report.Exit.TheVariants.{Code, Signal, Fault, Lost}
-use Rattle.otherworld.specs.Writing.{word_text, line_text, exit_key, exit_number, status_of, IsExit, tape_line_count}
+use Rattle.otherworld.specs.Writing.{token_text, line_text, exit_key, exit_number, status_word, IsExit, tape_line_count}
 use Rattle.ow_base.specs.Outside.{appended, IsFront, Writes}
 use Rattle.ow_base.proofs.Writing.{appended-nil, both, shifted, cut, then_writes}
 
@@ -54,36 +54,36 @@ finished r text a u v w p e = rw p.whole (then_writes r p.done a u v w p.put e)
 pub complete : (text : List ℕ) (u v : Option (List ℕ)) → PartWay text [] u v → v ≡ appended u text
 complete text u v p = rw (p.whole, append-nil) p.put
 
--- lines of one, of two and of three words behind the key word
-pub one_word : (key : List ℕ) (a : Word) → line_text key (a ∷ []) ≡ line (spaced key (word_text a))
+-- lines of one, of two and of three tokens behind the key word
+pub one_token : (key : List ℕ) (a : Token) → line_text key (a ∷ []) ≡ line (spaced key (token_text a))
 unfolding line_text
-one_word key a = simp append_assoc
+one_token key a = simp append_assoc
 
-pub two_words : (key : List ℕ) (a b : Word) → line_text key (a ∷ b ∷ []) ≡ line (spaced (spaced key (word_text a)) (word_text b))
+pub two_tokens : (key : List ℕ) (a b : Token) → line_text key (a ∷ b ∷ []) ≡ line (spaced (spaced key (token_text a)) (token_text b))
 unfolding line_text
-two_words key a b = simp append_assoc refl
+two_tokens key a b = simp append_assoc refl
 
-pub three_words : (key : List ℕ) (a b d : Word) → line_text key (a ∷ b ∷ d ∷ []) ≡ line (spaced (spaced (spaced key (word_text a)) (word_text b)) (word_text d))
+pub three_tokens : (key : List ℕ) (a b d : Token) → line_text key (a ∷ b ∷ d ∷ []) ≡ line (spaced (spaced (spaced key (token_text a)) (token_text b)) (token_text d))
 unfolding line_text
-three_words key a b d = simp append_assoc refl
+three_tokens key a b d = simp append_assoc refl
 
 -- the words of a status
-pub exit_words : (e : Exit) → IsExit e → status_words (status_of e) ≡ spaced (exit_key e) (decimal (exit_number e))
+pub exit_words : (e : Exit) → IsExit e → status_words (status_word e) ≡ spaced (exit_key e) (decimal (exit_number e))
 unfolding status_words
 exit_words (Code n) h = grind (arith, nat_tests)
 exit_words (Signal n) h = grind (arith, nat_tests)
 exit_words (Fault n) h = grind (arith, nat_tests)
 exit_words (Lost n) h = grind (arith, nat_tests)
 
--- a word and a number stand in a line as any two words do
+-- a word and a number stand in a line as any two tokens do
 regrouped : (key p x y : List ℕ) → line (spaced (spaced (spaced key p) x) y) ≡ line (spaced (spaced key p) (spaced x y))
 regrouped key p x y = simp append_assoc refl
 
 -- the line of an exit
-pub exit_line : (pid : ℕ) (e : Exit) (a b d : Word) → IsExit e → word_text a ≡ decimal pid → word_text b ≡ exit_key e → word_text d ≡ decimal (exit_number e)
-    → line_text (codes "exit") (a ∷ b ∷ d ∷ []) ≡ process_line pid (Some (status_of e))
+pub exit_line : (pid : ℕ) (e : Exit) (a b d : Token) → IsExit e → token_text a ≡ decimal pid → token_text b ≡ exit_key e → token_text d ≡ decimal (exit_number e)
+    → line_text (codes "exit") (a ∷ b ∷ d ∷ []) ≡ process_line pid (Some (status_word e))
 exit_line pid e a b d h p k n =
-    three_words (codes "exit") a b d
+    three_tokens (codes "exit") a b d
     ∙ rw (p, k, n) (regrouped (codes "exit") (decimal pid) (exit_key e) (decimal (exit_number e)))
     ∙ ap (λ (text : List ℕ). line (spaced (spaced (codes "exit") (decimal pid)) text)) (sym (exit_words e h))
 
@@ -134,10 +134,10 @@ trim_none (b ∷ (d ∷ row)) h =
     ap (λ (text : List ℕ). kept_before b text) (trim_none (d ∷ row) (rw e at h))
 
 -- the line of a row that is not blank
-pub row_line : (number : ℕ) (text : List ℕ) (a b : Word) → false ≡ nat_eq (length text) 0 → word_text a ≡ decimal number → word_text b ≡ escaped text
+pub row_line : (number : ℕ) (text : List ℕ) (a b : Token) → false ≡ nat_eq (length text) 0 → token_text a ≡ decimal number → token_text b ≡ escaped text
     → line_text (codes "row") (a ∷ b ∷ []) ≡ row_line_of number text
 row_line number [] a b h p q = absurd (cc)
-row_line number (d ∷ text) a b h p q = two_words (codes "row") a b ∙ rw (p, q) refl
+row_line number (d ∷ text) a b h p q = two_tokens (codes "row") a b ∙ rw (p, q) refl
 
 -- what the test for an empty list says
 pub some_left : (xs : List ℕ) → false ≡ nat_eq (length xs) 0 → 0 < length xs

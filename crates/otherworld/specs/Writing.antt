@@ -1,24 +1,24 @@
 -- How the report's lines are put together.
 use Rattle.std.specs.Prelude.{ℕ, ◌+◌, ◌/◌, ◌<◌, List, [], ◌∷◌, ◌++◌, length, flat_map, codes, decimal}
 use Rattle.ow_base.specs.Lines.{escaped}
-use Rattle.otherworld.specs.declared.ow_report.Word.{Word}
-use Rattle.otherworld.specs.declared.ow_report.Word.TheVariants.{Key, Number, Escaped}
+use Rattle.otherworld.specs.declared.ow_report.Token.{Token}
+use Rattle.otherworld.specs.declared.ow_report.Token.TheVariants.{Key, Number, Escaped}
 use Rattle.otherworld.specs.declared.ow_report.Exit.{Exit}
 use Rattle.otherworld.specs.declared.ow_report.Exit.TheVariants.{Code, Signal, Fault, Lost}
 
--- the text of a word
-abbrev pub word_text : Word → List ℕ
-word_text (Key text) = text.now
-word_text (Number n) = decimal n
-word_text (Escaped bytes) = escaped bytes.now
+-- the text of a token
+abbrev pub token_text : Token → List ℕ
+token_text (Key text) = text.now
+token_text (Number n) = decimal n
+token_text (Escaped bytes) = escaped bytes.now
 
--- a word behind another one
-abbrev pub next_word : Word → List ℕ
-next_word word = 32 ∷ word_text word
+-- a token behind another one
+abbrev pub next_token : Token → List ℕ
+next_token token = 32 ∷ token_text token
 
--- a line of a key word and the words behind it
-unfoldable pub line_text : (key : List ℕ) → List Word → List ℕ
-line_text key words = key ++ (flat_map next_word words ++ 10 ∷ [])
+-- a line of a key word and the tokens behind it
+unfoldable pub line_text : (key : List ℕ) → List Token → List ℕ
+line_text key tokens = key ++ (flat_map next_token tokens ++ 10 ∷ [])
 
 -- how a process ended, in a word and a number
 abbrev pub exit_key : Exit → List ℕ
@@ -34,11 +34,11 @@ exit_number (Fault n) = n
 exit_number (Lost n) = n
 
 -- the status word that an exit has
-abbrev pub status_of : Exit → ℕ
-status_of (Code n) = n
-status_of (Signal n) = 0x100 + n
-status_of (Fault n) = 0x200 + n
-status_of (Lost n) = 0x300 + n
+abbrev pub status_word : Exit → ℕ
+status_word (Code n) = n
+status_word (Signal n) = 0x100 + n
+status_word (Fault n) = 0x200 + n
+status_word (Lost n) = 0x300 + n
 
 -- the ranges that tell the exits apart
 abbrev pub IsExit : Exit → Type 0

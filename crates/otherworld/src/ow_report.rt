@@ -5,7 +5,7 @@ ghost use Rattle.ow_base.specs.Lines.{line, spaced, number_line, escaped};
 ghost use Rattle.ow_base.specs.Outside.{Rose, Writes};
 ghost use Rattle.record_layouts.specs.Report.{head_text, ending_word, status_words, process_line, process_lines, out_lines, tape_text, row_lines, trimmed, row_line_of, screen_text, terminal_text, report_of};
 ghost use Rattle.kernel_traps.specs.Plants.{unix_at, IsSound};
-ghost use Rattle.otherworld.specs.Writing.{word_text, next_word, line_text, exit_key, exit_number, status_of, IsExit, tape_line_count};
+ghost use Rattle.otherworld.specs.Writing.{token_text, next_token, line_text, exit_key, exit_number, status_word, IsExit, tape_line_count};
 
 use intent_store::live_records;
 use itoa::Buffer;
@@ -31,9 +31,9 @@ const LOST: u32 = 0x300;
 /// The state that the exit record of an ended process has.
 const ENDED: u32 = 2;
 
-/// A word of a line.
+/// A token of a line.
 #[derive(Clone, Copy, Debug)]
-enum Word<'a> {
+enum Token<'a> {
     /// A word that is written as it is.
     Key(&'a [u8]),
     /// A number, in decimal.
@@ -54,7 +54,7 @@ enum Exit {
 impl Exit {
     /// What a status word says.
     fn of_status(status: u32) -> Exit
-        ensures same { status_of result ≡ status }
+        ensures same { status_word result ≡ status }
         ensures fits { IsExit result }
     {
         match status {
@@ -98,39 +98,39 @@ fn put_count<K: Sink>(sink: &mut K, number: u64) -> Result<(), Failed>
     put_all(sink, buffer.format(number).as_bytes())
 }
 
-/// Writes a word.
-fn put_word<K: Sink>(sink: &mut K, word: Word<'_>) -> Result<(), Failed>
-    ensures writes { Writes result (word_text word.entry) (K.written sink.old) (K.written sink.new) }
+/// Writes a token.
+fn put_token<K: Sink>(sink: &mut K, token: Token<'_>) -> Result<(), Failed>
+    ensures writes { Writes result (token_text token.entry) (K.written sink.old) (K.written sink.new) }
     ensures failed { OnErr result (Rose (K.faults sink.old) (K.faults sink.new)) }
     ensures never_falls { K.faults sink.old ≤ K.faults sink.new }
 {
-    match word {
-        Word::Key(text) => put_all(sink, text),
-        Word::Number(number) => put_count(sink, number),
-        Word::Escaped(bytes) => put_escaped(sink, bytes),
+    match token {
+        Token::Key(text) => put_all(sink, text),
+        Token::Number(number) => put_count(sink, number),
+        Token::Escaped(bytes) => put_escaped(sink, bytes),
     }
 }
 
-/// Writes a space and a word.
-fn put_next<K: Sink>(sink: &mut K, word: Word<'_>) -> Result<(), Failed>
-    ensures writes { Writes result (next_word word.entry) (K.written sink.old) (K.written sink.new) }
+/// Writes a space and a token.
+fn put_next<K: Sink>(sink: &mut K, token: Token<'_>) -> Result<(), Failed>
+    ensures writes { Writes result (next_token token.entry) (K.written sink.old) (K.written sink.new) }
     ensures failed { OnErr result (Rose (K.faults sink.old) (K.faults sink.new)) }
     ensures never_falls { K.faults sink.old ≤ K.faults sink.new }
 {
     match put_all(sink, b" ") {
-        Ok(()) => put_word(sink, word),
+        Ok(()) => put_token(sink, token),
         Err(Failed) => Err(Failed),
     }
 }
 
-/// Writes words, each behind a space.
-fn put_words<K: Sink>(sink: &mut K, words: &[Word<'_>]) -> Result<(), Failed>
-    ensures writes { Writes result (flat_map next_word words.now) (K.written sink.old) (K.written sink.new) }
+/// Writes tokens, each behind a space.
+fn put_tokens<K: Sink>(sink: &mut K, tokens: &[Token<'_>]) -> Result<(), Failed>
+    ensures writes { Writes result (flat_map next_token tokens.now) (K.written sink.old) (K.written sink.new) }
     ensures failed { OnErr result (Rose (K.faults sink.old) (K.faults sink.new)) }
     ensures never_falls { K.faults sink.old ≤ K.faults sink.new }
 {
-    for word in words {
-        match put_next(sink, *word) {
+    for token in tokens {
+        match put_next(sink, *token) {
             Ok(()) => {}
             Err(Failed) => return Err(Failed),
         }
@@ -138,9 +138,9 @@ fn put_words<K: Sink>(sink: &mut K, words: &[Word<'_>]) -> Result<(), Failed>
     Ok(())
 }
 
-/// Writes a line: a key word and the words behind it.
-fn put_line<K: Sink>(sink: &mut K, key: &[u8], words: &[Word<'_>]) -> Result<(), Failed>
-    ensures writes { Writes result (line_text key.now words.now) (K.written sink.old) (K.written sink.new) }
+/// Writes a line: a key word and the tokens behind it.
+fn put_line<K: Sink>(sink: &mut K, key: &[u8], tokens: &[Token<'_>]) -> Result<(), Failed>
+    ensures writes { Writes result (line_text key.now tokens.now) (K.written sink.old) (K.written sink.new) }
     ensures failed { OnErr result (Rose (K.faults sink.old) (K.faults sink.new)) }
     ensures never_falls { K.faults sink.old ≤ K.faults sink.new }
 {
@@ -148,7 +148,7 @@ fn put_line<K: Sink>(sink: &mut K, key: &[u8], words: &[Word<'_>]) -> Result<(),
         Ok(()) => {}
         Err(Failed) => return Err(Failed),
     }
-    match put_words(sink, words) {
+    match put_tokens(sink, tokens) {
         Ok(()) => put_all(sink, b"\n"),
         Err(Failed) => Err(Failed),
     }
@@ -160,7 +160,7 @@ fn put_number_line<K: Sink>(sink: &mut K, key: &[u8], number: u32) -> Result<(),
     ensures failed { OnErr result (Rose (K.faults sink.old) (K.faults sink.new)) }
     ensures never_falls { K.faults sink.old ≤ K.faults sink.new }
 {
-    put_line(sink, key, &[Word::Number(u64::from(number))])
+    put_line(sink, key, &[Token::Number(u64::from(number))])
 }
 
 /// The word of an ending.
@@ -180,7 +180,7 @@ fn put_ending<K: Sink>(sink: &mut K, ending: Ending) -> Result<(), Failed>
     ensures failed { OnErr result (Rose (K.faults sink.old) (K.faults sink.new)) }
     ensures never_falls { K.faults sink.old ≤ K.faults sink.new }
 {
-    put_line(sink, b"ending", &[Word::Key(ending_key(ending))])
+    put_line(sink, b"ending", &[Token::Key(ending_key(ending))])
 }
 
 /// Writes the four lines that a report begins with.
@@ -207,13 +207,13 @@ fn put_head<K: Sink>(sink: &mut K, ending: Ending, steps: u32, traps: u32) -> Re
 /// Writes how the process ended: a line of its pid and its exit.
 fn put_exit<K: Sink>(sink: &mut K, pid: u32, exit: Exit) -> Result<(), Failed>
     requires { IsExit exit }
-    ensures writes { Writes result (process_line pid (Some (status_of exit))) (K.written sink.old) (K.written sink.new) }
+    ensures writes { Writes result (process_line pid (Some (status_word exit))) (K.written sink.old) (K.written sink.new) }
     ensures failed { OnErr result (Rose (K.faults sink.old) (K.faults sink.new)) }
     ensures never_falls { K.faults sink.old ≤ K.faults sink.new }
 {
-    let pid = Word::Number(u64::from(pid));
-    let number = Word::Number(u64::from(exit.number()));
-    put_line(sink, b"exit", &[pid, Word::Key(exit.key()), number])
+    let pid = Token::Number(u64::from(pid));
+    let number = Token::Number(u64::from(exit.number()));
+    put_line(sink, b"exit", &[pid, Token::Key(exit.key()), number])
 }
 
 /// Writes the line of a process: how it ended, or that it is live.
@@ -276,7 +276,7 @@ fn put_out_line<K: Sink>(sink: &mut K, bytes: &[u8]) -> Result<(), Failed>
     ensures failed { OnErr result (Rose (K.faults sink.old) (K.faults sink.new)) }
     ensures never_falls { K.faults sink.old ≤ K.faults sink.new }
 {
-    put_line(sink, b"out", &[Word::Escaped(bytes)])
+    put_line(sink, b"out", &[Token::Escaped(bytes)])
 }
 
 /// Writes a tape, 64 bytes a line, the last line shorter.
@@ -305,7 +305,7 @@ fn put_tape_line<K: Sink>(sink: &mut K, tty: u32, length: usize) -> Result<(), F
     put_line(
         sink,
         b"tty",
-        &[Word::Number(u64::from(tty)), Word::Number(length as u64)],
+        &[Token::Number(u64::from(tty)), Token::Number(length as u64)],
     )
 }
 
@@ -345,7 +345,7 @@ fn put_row<K: Sink>(sink: &mut K, number: u32, row: &[u8]) -> Result<(), Failed>
     put_line(
         sink,
         b"row",
-        &[Word::Number(u64::from(number)), Word::Escaped(text)],
+        &[Token::Number(u64::from(number)), Token::Escaped(text)],
     )
 }
 
@@ -370,14 +370,14 @@ fn put_cursor<K: Sink>(sink: &mut K, tty: u32, row: u32, col: u32) -> Result<(),
     ensures failed { OnErr result (Rose (K.faults sink.old) (K.faults sink.new)) }
     ensures never_falls { K.faults sink.old ≤ K.faults sink.new }
 {
-    let tty = Word::Number(u64::from(tty));
+    let tty = Token::Number(u64::from(tty));
     put_line(
         sink,
         b"screen",
         &[
             tty,
-            Word::Number(u64::from(row)),
-            Word::Number(u64::from(col)),
+            Token::Number(u64::from(row)),
+            Token::Number(u64::from(col)),
         ],
     )
 }

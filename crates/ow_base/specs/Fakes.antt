@@ -35,8 +35,8 @@ abbrev pub counted : (calls : ℕ) → ℕ
 counted calls = min (calls + 1) (2 ^ 32 - 1)
 
 -- the count of faults after one more
-abbrev pub risen : (faults : ℕ) → ℕ
-risen faults = min (faults + 1) (2 ^ 64 - 1)
+abbrev pub next_count : (faults : ℕ) → ℕ
+next_count faults = min (faults + 1) (2 ^ 64 - 1)
 
 -- how many bytes of so many one call may move
 abbrev pub paced : (pace count : ℕ) → ℕ
@@ -56,7 +56,7 @@ after_read r count = record r { left = drop count r.left; calls = counted r.call
 
 -- a source after a call that failed
 abbrev pub after_failed_read : Reading → Reading
-after_failed_read r = record r { calls = counted r.calls; faults = risen r.faults }
+after_failed_read r = record r { calls = counted r.calls; faults = next_count r.faults }
 
 -- how many bytes of a piece a call takes
 abbrev pub write_count : Writing → (size : ℕ) → ℕ
@@ -68,7 +68,7 @@ after_write w bytes = record w { written = w.written ++ bytes; calls = counted w
 
 -- a sink after a call that failed
 abbrev pub after_failed_write : Writing → Writing
-after_failed_write w = record w { calls = counted w.calls; faults = risen w.faults }
+after_failed_write w = record w { calls = counted w.calls; faults = next_count w.faults }
 
 -- how many bytes of a piece a sink takes that fails only where its room is full
 abbrev pub fill_count : Filling → (size : ℕ) → ℕ
@@ -80,4 +80,4 @@ after_fill f bytes = record f { written = f.written ++ bytes }
 
 -- that sink after a call that failed
 abbrev pub after_failed_fill : Filling → Filling
-after_failed_fill f = record f { faults = risen f.faults }
+after_failed_fill f = record f { faults = next_count f.faults }

@@ -1,7 +1,7 @@
 -- The world outside: bytes that come in, bytes that go out, and faults.
 use Rattle.std.specs.Prelude.{◌≡◌, ℕ, ◌-◌, ◌^◌, ◌<◌, ◌≤◌, ◌+◌, ◌⊎◌, List, [], ◌++◌, length, take, drop, Option, Some, None, Result, Ok, Err}
 
--- a count of faults rose; at its last value it counts as risen
+-- a count of faults rose; at its last value it counts as having risen
 abbrev pub Rose : (old new : ℕ) → Type 0
 Rose old new = (old < new) ⊎ (new ≡ 2 ^ 64 - 1)
 

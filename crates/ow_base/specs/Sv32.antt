@@ -59,15 +59,15 @@ module _ (words : WordMap) (access : Access) (address : ℕ) where
   by_last (Some entry) = if is_valid entry && is_leaf entry then by_leaf entry (frame_named entry) else Err cause.Page
   by_last None = Err cause.Access
 
-  -- what a leaf of the first level gives: a superpage of 1,024 frames, which must be aligned
-  unfoldable pub by_superpage : (entry : ℕ) → Result Phys PageCause
-  by_superpage entry = if frame_named entry % 1024 == 0 then by_leaf entry (frame_named entry + bits address 12 10) else Err cause.Page
+  -- what a leaf of the first level gives: a megapage of 1,024 frames, which must be aligned
+  unfoldable pub by_megapage : (entry : ℕ) → Result Phys PageCause
+  by_megapage entry = if frame_named entry % 1024 == 0 then by_leaf entry (frame_named entry + bits address 12 10) else Err cause.Page
 
   -- what an entry of the first level gives; of one that is no leaf only V and the frame count
   abbrev pub by_first : Option ℕ → Result Phys PageCause
   by_first (Some entry) =
       if not (is_valid entry) then Err cause.Page else
-      if is_leaf entry then by_superpage entry else by_last (words (frame_named entry) (bits address 12 10))
+      if is_leaf entry then by_megapage entry else by_last (words (frame_named entry) (bits address 12 10))
   by_first None = Err cause.Access
 
 -- where an access to an address leads, by the tables whose root satp names: to a place; or it is a page fault,

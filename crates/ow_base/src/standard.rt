@@ -2,7 +2,7 @@
 
 ghost use Rattle.std.specs.Prelude.{◌≡◌, ◌≢◌, List, [], ◌≤◌, length, take, None, IfOk, OnOk, OnErr};
 ghost use Rattle.std.specs.Io.KnownBytes.{ReadConsumes, WriteAppends};
-ghost use Rattle.ow_base.specs.Fakes.{risen};
+ghost use Rattle.ow_base.specs.Fakes.{next_count};
 ghost use Rattle.ow_base.specs.Outside.{Rose, appended, IsFront, OnTold, Takes};
 
 use crate::outside::{Failed, Sink, Source};
@@ -40,7 +40,7 @@ impl<R: Read> Source for StdSource<R> {
     fn read(&mut self, buf: &mut [u8]) -> Result<usize, Failed>
         ensures passes { ReadConsumes (R.remaining self.old.reader) (R.remaining self.new.reader)
             result buf.new }
-        ensures counts { OnErr result (self.new.faults ≡ risen self.old.faults) }
+        ensures counts { OnErr result (self.new.faults ≡ next_count self.old.faults) }
         ensures stays { OnOk result (self.new.faults ≡ self.old.faults) }
         ensures count { IfOk result (λ n. n ≤ length buf.old) }
         ensures taken { IfOk result (λ n. Takes None None (take n buf.new)) }
@@ -92,7 +92,7 @@ impl<W: Write> Sink for StdSink<W> {
     fn write(&mut self, bytes: &[u8]) -> Result<usize, Failed>
         ensures passes { WriteAppends (W.contents self.old.writer) (W.contents self.new.writer)
             result bytes.now }
-        ensures counts { OnErr result (self.new.faults ≡ risen self.old.faults) }
+        ensures counts { OnErr result (self.new.faults ≡ next_count self.old.faults) }
         ensures stays { OnOk result (self.new.faults ≡ self.old.faults) }
         ensures count { IfOk result (λ n. n ≤ length bytes.now) }
         ensures some { IfOk result (λ n. length bytes.now ≢ 0 → n ≢ 0) }

@@ -22,7 +22,7 @@ use Rattle.ow_plant.specs.declared.refusal.Refusal.{Refusal}
 use Rattle.ow_plant.specs.declared.refusal.Refusal.TheVariants as refusal
 
 -- a terminal: the bytes written, how many there is room for, and what its display shows
-pub record Terminal : Type 0 where
+pub record Device : Type 0 where
   pub tape : List ℕ
   pub room : ℕ
   pub display : Screen
@@ -48,8 +48,8 @@ pub record PlantState : Type 0 where
   pub user_pid : ℕ
   -- instructions since the return to user mode
   pub slice : ℕ
-  pub tty0 : Terminal
-  pub tty1 : Terminal
+  pub tty0 : Device
+  pub tty1 : Device
   pub steps : ℕ
   pub traps : ℕ
   -- where panics come; no call tells a program
@@ -78,8 +78,8 @@ abbrev pub risen_far : ℕ → ℕ
 risen_far n = min (n + 1) (2 ^ 64 - 1)
 
 -- a terminal on which nothing was written
-abbrev pub silent_terminal : (room : ℕ) → Terminal
-silent_terminal room = record { tape = []; room = room; display = blank_screen }
+abbrev pub silent_device : (room : ℕ) → Device
+silent_device room = record { tape = []; room = room; display = blank_screen }
 
 -- a plant that is armed with a shape, and nothing was done with it yet
 pub record IsReady (shape : Shape) (s : PlantState) : Type 0 where
@@ -87,8 +87,8 @@ pub record IsReady (shape : Shape) (s : PlantState) : Type 0 where
   pub of_shape : s.shape ≡ shape
   pub zeroed : s.memory ≡ zeroed shape.user_frames
   pub in_kernel : s.in_user ≡ false
-  pub tty0 : s.tty0 ≡ silent_terminal (16 * shape.budget)
-  pub tty1 : s.tty1 ≡ silent_terminal (16 * shape.budget)
+  pub tty0 : s.tty0 ≡ silent_device (16 * shape.budget)
+  pub tty1 : s.tty1 ≡ silent_device (16 * shape.budget)
   pub no_steps : s.steps ≡ 0
   pub no_traps : s.traps ≡ 0
   pub no_stores : s.stores ≡ 0
@@ -108,7 +108,7 @@ pub record IsArmed (s : PlantState) : Type 0 where
 
 -- what holds of every plant: it has no frame before it is armed, and never more than 384 for pages in a half; its budget
 -- is at most 2000000, and each terminal has room for 16 bytes a step of it
-pub record FitsShape (armed : Bool) (shape : Shape) (memory : MemoryParts) (tty0 tty1 : Terminal) : Type 0 where
+pub record FitsShape (armed : Bool) (shape : Shape) (memory : MemoryParts) (tty0 tty1 : Device) : Type 0 where
   pub none_before : armed ≡ false → frame_count memory ≡ 0
   pub few_frames : shape.user_frames ≤ 384
   pub few_steps : shape.budget ≤ 2000000
@@ -155,11 +155,11 @@ now_of s = record {
 }
 
 -- the terminal with a number below 2
-abbrev pub tty_of : PlantState → (tty : ℕ) → Terminal
+abbrev pub tty_of : PlantState → (tty : ℕ) → Device
 tty_of s tty = if tty == 0 then s.tty0 else s.tty1
 
 -- a byte goes to the end of the tape and is drawn
-abbrev pub put_on : Terminal → (byte : ℕ) → Terminal
+abbrev pub put_on : Device → (byte : ℕ) → Device
 put_on t byte = record t { tape = t.tape ++ byte ∷ []; display = drawn t.display byte }
 
 -- the plant with a byte put on a terminal, which is a store

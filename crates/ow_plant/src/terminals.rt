@@ -16,9 +16,9 @@ pub(crate) struct Tty {
 
 impl Model for Tty {
     ghost use Rattle.std.specs.Vec.{vec_capacity};
-    ghost use Rattle.ow_plant.specs.State.{Terminal};
+    ghost use Rattle.ow_plant.specs.State.{Device};
 
-    ghost Value = { Terminal };
+    ghost Value = { Device };
 
     ghost view = { λ t. record { tape = t.bytes.items; room = vec_capacity t.bytes; display = t.display } };
 }

@@ -80,7 +80,7 @@ fn if_given(given: bool, frame: u32, offset: u32) -> Result<Phys, PageCause> {
 }
 
 // Each way to set the ten lowest bits of a leaf of the last level, of one of the first, and of an entry of the first that
-// names no aligned superpage: this one leads on where V is set and R, W and X are clear, whatever the others are.
+// names no aligned megapage: this one leads on where V is set and R, W and X are clear, whatever the others are.
 #[test]
 fn flags_of_entries(rt: HostRuntime) {
     let mut memory = Memory::new(1024);
@@ -138,7 +138,7 @@ fn places_of_tables(rt: HostRuntime) {
         // Pages in frames that are not there, before and behind memory.
         (0x0040_3000, Err(PageCause::Access)),
         (0x0040_4000, Err(PageCause::Access)),
-        // A superpage that is not aligned, and one whose fourth frame is not there.
+        // A megapage that is not aligned, and one whose fourth frame is not there.
         (0x0080_0000, Err(PageCause::Page)),
         (0x0140_2008, place(1026, 8)),
         (0x0140_3008, Err(PageCause::Access)),

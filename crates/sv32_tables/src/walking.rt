@@ -2,7 +2,7 @@
 
 ghost use Rattle.std.specs.Prelude.{◌≡◌, ◌<◌, ◌^◌, ◌%◌, ◌/◌, true, Some, IfOk, is_some};
 ghost use Rattle.ow_base.specs.Words.{bits};
-ghost use Rattle.ow_base.specs.Sv32.{translated, by_first, by_superpage, by_last, by_leaf};
+ghost use Rattle.ow_base.specs.Sv32.{translated, by_first, by_megapage, by_last, by_leaf};
 ghost use Rattle.sv32_tables.specs.Places.{place_reached};
 
 use crate::entry::Entry;
@@ -12,9 +12,9 @@ use ow_base::{Access, PageCause, Phys, WordSource};
 const PAGE: u32 = 4096;
 
 // The bytes that an entry of the first level speaks of.
-const SUPERPAGE: u32 = 0x40_0000;
+const MEGAPAGE: u32 = 0x40_0000;
 
-// The entries of a table, and so the pages of a superpage.
+// The entries of a table, and so the pages of a megapage.
 const ENTRIES: u32 = 1024;
 
 // The frames that `satp` can name: PPN is its 22 lowest bits.
@@ -31,7 +31,7 @@ pub struct Reached {
 /// MODE is 1 in `satp`: Sv32 is on. Its ASID counts for nothing, and MXR is taken as 0: what can only be executed
 /// is not loaded.
 ///
-/// A place has the address's offset in its page, and its word is there. `Err(Page)` where an entry does not count, leads no further, does not give the access or is a superpage that
+/// A place has the address's offset in its page, and its word is there. `Err(Page)` where an entry does not count, leads no further, does not give the access or is a megapage that
 /// is not aligned; `Err(Access)` where a table or the place lies in a frame that is not there.
 pub fn walk<W: WordSource>(
     source: &W,
@@ -76,10 +76,10 @@ fn first_place(address: u32) -> u32
     ensures value { result ≡ bits address 22 10 }
     ensures fits { result < 1024 }
 {
-    address / SUPERPAGE
+    address / MEGAPAGE
 }
 
-// Its place in a table of the last level, and the frame's place in a superpage: VPN[0].
+// Its place in a table of the last level, and the frame's place in a megapage: VPN[0].
 fn last_place(address: u32) -> u32
     ensures value { result ≡ bits address 12 10 }
     ensures fits { result < 1024 }
@@ -102,7 +102,7 @@ fn first_level<W: WordSource>(
         return Err(PageCause::Page);
     }
     if entry.is_leaf() {
-        return superpage(source, access, address, entry);
+        return megapage(source, access, address, entry);
     }
     match source.load(entry.frame(), last_place(address)) {
         Some(word) => last_level(source, access, address, Entry { word }),
@@ -111,14 +111,14 @@ fn first_level<W: WordSource>(
 }
 
 #[cold]
-#[tactic(auto, unfolding(ow_base::specs::Sv32::by_superpage))]
-fn superpage<W: WordSource>(
+#[tactic(auto, unfolding(ow_base::specs::Sv32::by_megapage))]
+fn megapage<W: WordSource>(
     source: &W,
     access: Access,
     address: u32,
     entry: Entry,
 ) -> Result<Reached, PageCause>
-    ensures answer { place_reached result ≡ by_superpage (W.words source.now) access address entry.word }
+    ensures answer { place_reached result ≡ by_megapage (W.words source.now) access address entry.word }
     ensures offset { IfOk result (λ reached. reached.place.offset ≡ address % 4096) }
     ensures word { IfOk result (λ reached. W.words source.now reached.place.frame (reached.place.offset / 4) ≡ Some reached.word) }
 {

@@ -17,7 +17,7 @@ use Rattle.ow_base.specs.declared.worlds.Program.{Program}
 use Rattle.ow_base.specs.declared.worlds.Start.{Start as Started}
 use Rattle.world_file.specs.declared.key.Key.{Key}
 use Rattle.world_file.specs.declared.key.Key.TheVariants.{Budget, Start}
-use Rattle.world_file.specs.WorldLines.{Line, words, pieces, key, key_of}
+use Rattle.world_file.specs.WorldLines.{Line, tokens, pieces, key, key_of}
 use Rattle.world_file.specs.WorldFacts.{Facts, has_name}
 use Rattle.world_file.specs.WorldReasons.{start_place, counted_place}
 use Rattle.world_file.specs.WorldRefusals.{IsBuilt}
@@ -71,7 +71,7 @@ pub record IsNamedStart (programs : List Program) (program : Program) (start : S
   pub tty : start.tty < 2
 
 start_passed : (k : Key) (shape : Shape) (done : List Program) (o : Option Program) (before : List Started) (l : Line) (p : Program) (start : Started) → Starts k
-    → words l ≡ codes "start" ∷ p.name ∷ decimal start.tty ∷ [] → IsNamedStart (done ++ option_to_list o) p start → length before < 16
+    → tokens l ≡ codes "start" ∷ p.name ∷ decimal start.tty ∷ [] → IsNamedStart (done ++ option_to_list o) p start → length before < 16
     → start_pages (done ++ option_to_list o) (before ++ start ∷ []) ≤ shape.user_frames → IsPassed (before_start k shape done o before) l
 unfolding key_of
 start_passed k shape done o before l p start starts w is few fits =
@@ -105,7 +105,7 @@ start_passed k shape done o before l p start starts w is few fits =
     }
 
 start_said : (k : Key) (shape : Shape) (done : List Program) (o : Option Program) (before : List Started) (l : Line) (p : Program) (start : Started)
-    → words l ≡ codes "start" ∷ p.name ∷ decimal start.tty ∷ [] → IsNamedStart (done ++ option_to_list o) p start
+    → tokens l ≡ codes "start" ∷ p.name ∷ decimal start.tty ∷ [] → IsNamedStart (done ++ option_to_list o) p start
     → with_line (before_start k shape done o before) l ≡ at_start shape (done ++ option_to_list o) (before ++ start ∷ [])
 unfolding with_line key_of
 start_said k shape done o before l p start w is =
@@ -131,7 +131,7 @@ start_read k shape done o programs before p start rest world starts whole is few
     (subst (λ f. Reads f rest world) (sym said) more)
 
 end_passed : (shape : Shape) (programs : List Program) (starts : List Started) → IsPassed (at_start shape programs starts) (codes "end")
-unfolding words pieces key_of
+unfolding tokens pieces key_of
 end_passed shape programs starts = record { first = refl; built = refl; word = refl; count = refl; fields = refl; number = refl; name = refl; hex = refl; once = refl; program = refl; frames = refl }
 
 -- starts that may all stand

@@ -11,7 +11,7 @@ use Rattle.ow_base.specs.declared.machine.Shape.{Shape}
 use Rattle.ow_base.specs.declared.worlds.Program.{Program}
 use Rattle.world_file.specs.declared.key.Key.{Key}
 use Rattle.world_file.specs.declared.key.Key.TheVariants.{Program as ProgramKey, Code, Data}
-use Rattle.world_file.specs.WorldLines.{Line, words, word_at, fields, key, is_name, is_word}
+use Rattle.world_file.specs.WorldLines.{Line, tokens, token_at, fields, key, is_name, is_word}
 use Rattle.world_file.specs.WorldFacts.{Facts, has_name}
 use Rattle.world_file.specs.WorldReasons.{place_of, counted_place, is_taken, has_fields, has_too_many_words, has_no_name, has_no_word, comes_twice, exceeds}
 use Rattle.world_file.specs.declared.reasons.Place.TheVariants.{Free, Taken}
@@ -71,7 +71,7 @@ program_step text f l k shape done o opens blocks e key_is is =
     let before = at_program k shape done o in
     let p = subst (λ f. IsPassed f l) e is in
     let w = words_one l (codes "program") (first_word l ProgramKey key_is) (field_count before l ProgramKey key_is p) in
-    let name = word_at 1 l in
+    let name = token_at 1 l in
     let programs = done ++ option_to_list o in
     let named = name_reads name (not_false (is_name name) (subst (λ k. has_no_name k l ≡ false) key_is p.name)) in
     let fresh = subst (λ k. comes_twice k before l ≡ false) key_is p.once in
@@ -96,13 +96,13 @@ behind_words : (ws : List ℕ) → behind 32 (map hex8 ws) ≡ flat_map word_tex
 behind_words [] = refl
 behind_words (w ∷ ws) = ap (λ t. word_text w ++ t) (behind_words ws)
 
-pub spelled_word_line : (l : Line) (word ws : List ℕ) → words l ≡ word ∷ map hex8 ws → l ≡ word ++ flat_map word_text ws
+pub spelled_word_line : (l : Line) (word ws : List ℕ) → tokens l ≡ word ∷ map hex8 ws → l ≡ word ++ flat_map word_text ws
 spelled_word_line l word ws w = spelled_words l ∙ ap (joined 32) w ∙ ap (λ t. word ++ t) (behind_words ws)
 
 abbrev IsWordLine : (before : ℕ) (word : List ℕ) (l : Line) → Type 0
-IsWordLine before word l = (ws : List ℕ) × (words l ≡ word ∷ map hex8 ws) × IsLineful ws × (before + length ws ≤ 65536)
+IsWordLine before word l = (ws : List ℕ) × (tokens l ≡ word ∷ map hex8 ws) × IsLineful ws × (before + length ws ≤ 65536)
 
-word_line_found : (f : Facts) (l : Line) (before : ℕ) (word : List ℕ) (k : Key) → key l ≡ k → word_at 0 l ≡ word → has_fields k (length (fields l)) ≡ nat_le 1 (length (fields l))
+word_line_found : (f : Facts) (l : Line) (before : ℕ) (word : List ℕ) (k : Key) → key l ≡ k → token_at 0 l ≡ word → has_fields k (length (fields l)) ≡ nat_le 1 (length (fields l))
     → has_too_many_words k f l ≡ exceeds before (length (fields l)) → has_no_word k l ≡ not (list_all is_word (fields l)) → IsPassed f l → IsWordLine before word l
 word_line_found f l before word k e first some many hex is =
     let here = length (fields l) in
@@ -115,7 +115,7 @@ word_line_found f l before word k e first some many hex is =
     let whole = lt_false 65536 (before + here) sizes.1 in
     let count : here ≡ length found.0 = ap length found.1 ∙ count_of_words found.0 in (
       found.0,
-      words_split l ∙ ap (λ fs. word_at 0 l ∷ fs) found.1 ∙ ap (λ x. x ∷ map hex8 found.0) first,
+      words_split l ∙ ap (λ fs. token_at 0 l ∷ fs) found.1 ∙ ap (λ x. x ∷ map hex8 found.0) first,
       record { some = omega arith; most = omega arith; each = All-from_recursion (λ w. w < 2 ^ 32) found.0 found.2 },
       omega arith,
     )

@@ -9,7 +9,7 @@ use Rattle.ow_base.specs.declared.worlds.World.{World}
 use Rattle.ow_base.specs.declared.worlds.Program.{Program}
 use Rattle.world_file.specs.declared.key.Key.{Key}
 use Rattle.world_file.specs.declared.key.Key.TheVariants.{Program as ProgramKey, Code, Data}
-use Rattle.world_file.specs.WorldLines.{Line, words, key, key_of, words_of}
+use Rattle.world_file.specs.WorldLines.{Line, tokens, key, key_of, words_of}
 use Rattle.world_file.specs.WorldFacts.{Facts, has_name}
 use Rattle.world_file.specs.WorldReasons.{program_place, start_place, code_place, data_place, counted_place}
 use Rattle.world_file.specs.declared.reasons.Place.TheVariants.{Free}
@@ -35,7 +35,7 @@ pub record EndsBlock (k : Key) : Type 0 where
 abbrev pub block : (name code values : List ℕ) → Program
 block name code values = record { name = name; code = code; values = values }
 
-pub program_passed : (k : Key) (shape : Shape) (done : List Program) (o : Option Program) (l : Line) (name : List ℕ) → Opens k → words l ≡ codes "program" ∷ name ∷ [] → IsName name
+pub program_passed : (k : Key) (shape : Shape) (done : List Program) (o : Option Program) (l : Line) (name : List ℕ) → Opens k → tokens l ≡ codes "program" ∷ name ∷ [] → IsName name
     → list_any (has_name name) (done ++ option_to_list o) ≡ false → length (done ++ option_to_list o) < 16 → IsPassed (at_program k shape done o) l
 unfolding key_of
 program_passed k shape done o l name opens w named fresh room =
@@ -58,7 +58,7 @@ program_passed k shape done o l name opens w named fresh room =
       frames = rw key refl;
     }
 
-pub program_said : (k : Key) (shape : Shape) (done : List Program) (o : Option Program) (l : Line) (name : List ℕ) → words l ≡ codes "program" ∷ name ∷ []
+pub program_said : (k : Key) (shape : Shape) (done : List Program) (o : Option Program) (l : Line) (name : List ℕ) → tokens l ≡ codes "program" ∷ name ∷ []
     → with_line (at_program k shape done o) l ≡ at_program ProgramKey shape (done ++ option_to_list o) (Some (block name [] []))
 unfolding with_line key_of
 program_said k shape done o l name w =
@@ -66,7 +66,7 @@ program_said k shape done o l name w =
     rw (key, w) refl
 
 -- lines of code
-code_passed : (k : Key) (shape : Shape) (done : List Program) (name code values : List ℕ) (l : Line) (ws : List ℕ) → code_place (Some k) ≡ Free → words l ≡ codes "code" ∷ map hex8 ws
+code_passed : (k : Key) (shape : Shape) (done : List Program) (name code values : List ℕ) (l : Line) (ws : List ℕ) → code_place (Some k) ≡ Free → tokens l ≡ codes "code" ∷ map hex8 ws
     → IsLineful ws → length code + length ws ≤ 65536 → IsPassed (at_program k shape done (Some (block name code values))) l
 unfolding key_of
 code_passed k shape done name code values l ws place w is room =
@@ -91,7 +91,7 @@ code_passed k shape done name code values l ws place w is room =
       frames = rw key refl;
     }
 
-pub code_said : (k : Key) (shape : Shape) (done : List Program) (name code values : List ℕ) (l : Line) (ws : List ℕ) → words l ≡ codes "code" ∷ map hex8 ws → IsLineful ws
+pub code_said : (k : Key) (shape : Shape) (done : List Program) (name code values : List ℕ) (l : Line) (ws : List ℕ) → tokens l ≡ codes "code" ∷ map hex8 ws → IsLineful ws
     → with_line (at_program k shape done (Some (block name code values))) l ≡ at_program Code shape done (Some (block name (code ++ ws) values))
 unfolding with_line key_of words_of
 code_said k shape done name code values l ws w is =
@@ -100,7 +100,7 @@ code_said k shape done name code values l ws w is =
     rw (key, w, are) refl
 
 -- lines of data
-data_passed : (k : Key) (shape : Shape) (done : List Program) (name code values : List ℕ) (l : Line) (ws : List ℕ) → data_place (Some k) ≡ Free → words l ≡ codes "data" ∷ map hex8 ws
+data_passed : (k : Key) (shape : Shape) (done : List Program) (name code values : List ℕ) (l : Line) (ws : List ℕ) → data_place (Some k) ≡ Free → tokens l ≡ codes "data" ∷ map hex8 ws
     → IsLineful ws → length values + length ws ≤ 65536 → IsPassed (at_program k shape done (Some (block name code values))) l
 unfolding key_of
 data_passed k shape done name code values l ws place w is room =
@@ -125,7 +125,7 @@ data_passed k shape done name code values l ws place w is room =
       frames = rw key refl;
     }
 
-pub data_said : (k : Key) (shape : Shape) (done : List Program) (name code values : List ℕ) (l : Line) (ws : List ℕ) → words l ≡ codes "data" ∷ map hex8 ws → IsLineful ws
+pub data_said : (k : Key) (shape : Shape) (done : List Program) (name code values : List ℕ) (l : Line) (ws : List ℕ) → tokens l ≡ codes "data" ∷ map hex8 ws → IsLineful ws
     → with_line (at_program k shape done (Some (block name code values))) l ≡ at_program Data shape done (Some (block name code (values ++ ws)))
 unfolding with_line key_of words_of
 data_said k shape done name code values l ws w is =

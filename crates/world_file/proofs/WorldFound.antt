@@ -14,7 +14,7 @@ use Rattle.ow_base.specs.declared.worlds.Start.{Start as Started}
 use Rattle.world_file.specs.declared.key.Key.{Key}
 use Rattle.world_file.specs.declared.key.Key.TheVariants.{World as WorldKey, Frames, Sectors, Quantum, Budget, Program as ProgramKey, Code, Data, Start}
 use Rattle.world_file.specs.declared.why.Why.{Why}
-use Rattle.world_file.specs.WorldLines.{Line, words, pieces, key_of}
+use Rattle.world_file.specs.WorldLines.{Line, tokens, pieces, key_of}
 use Rattle.world_file.specs.WorldFacts.{Facts}
 use Rattle.world_file.specs.WorldReasons.{first_reason, end_place}
 use Rattle.world_file.specs.declared.reasons.Place.TheVariants.{Free}
@@ -38,7 +38,7 @@ end_free (Some Start) h = refl
 end_free other h = cc
 
 behind_start : (f : Facts) → IsPassed f (codes "end") → f.last ≡ Some Start
-unfolding words pieces key_of
+unfolding tokens pieces key_of
 behind_start f is = end_free f.last (may_stand f (codes "end") is)
 
 no_pairs : {A : Type 0} (R : A → A → Type 0) → AllPairs R []

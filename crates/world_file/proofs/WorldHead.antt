@@ -6,7 +6,7 @@ use Rattle.ow_base.specs.declared.machine.Shape.{Shape}
 use Rattle.ow_base.specs.declared.worlds.World.{World}
 use Rattle.world_file.specs.declared.key.Key.{Key}
 use Rattle.world_file.specs.declared.key.Key.TheVariants.{World as WorldKey, Frames, Sectors, Quantum, Budget}
-use Rattle.world_file.specs.WorldLines.{Line, words, pieces, key, key_of}
+use Rattle.world_file.specs.WorldLines.{Line, tokens, pieces, key, key_of}
 use Rattle.world_file.specs.WorldFacts.{Facts, no_shape}
 use Rattle.world_file.specs.WorldReading.{with_line, nothing_said}
 use Rattle.world_file.proofs.WorldPieces.{free, free-append}
@@ -23,14 +23,14 @@ abbrev pub shape_with : (frames sectors quantum budget : ℕ) → Shape
 shape_with frames sectors quantum budget = record { user_frames = frames; sectors = sectors; quantum = quantum; budget = budget }
 
 first_passed : IsPassed nothing_said (codes "world 1")
-unfolding words pieces key_of
+unfolding tokens pieces key_of
 first_passed = record { first = refl; built = refl; word = refl; count = refl; fields = refl; number = refl; name = refl; hex = refl; once = refl; program = refl; frames = refl }
 
 pub first_said : with_line nothing_said (codes "world 1") ≡ at_head WorldKey no_shape
-unfolding with_line words pieces key_of
+unfolding with_line tokens pieces key_of
 first_said = refl
 
-frames_passed : (shape : Shape) (l : Line) (n : ℕ) → words l ≡ codes "frames" ∷ decimal n ∷ [] → 16 ≤ n → n ≤ 384 → IsPassed (at_head WorldKey shape) l
+frames_passed : (shape : Shape) (l : Line) (n : ℕ) → tokens l ≡ codes "frames" ∷ decimal n ∷ [] → 16 ≤ n → n ≤ 384 → IsPassed (at_head WorldKey shape) l
 unfolding key_of
 frames_passed shape l n w low high =
     let k : key l ≡ Frames = rw w refl in
@@ -52,14 +52,14 @@ frames_passed shape l n w low high =
       frames = rw k refl;
     }
 
-pub frames_said : (shape : Shape) (l : Line) (n : ℕ) → words l ≡ codes "frames" ∷ decimal n ∷ [] → n < 2 ^ 32 → with_line (at_head WorldKey shape) l ≡ at_head Frames (record shape { user_frames = n })
+pub frames_said : (shape : Shape) (l : Line) (n : ℕ) → tokens l ≡ codes "frames" ∷ decimal n ∷ [] → n < 2 ^ 32 → with_line (at_head WorldKey shape) l ≡ at_head Frames (record shape { user_frames = n })
 unfolding with_line key_of
 frames_said shape l n w small =
     let k : key l ≡ Frames = rw w refl in
     let value = number_of_accepts n small in
     rw (k, w, value) refl
 
-sectors_passed : (shape : Shape) (l : Line) (n : ℕ) → words l ≡ codes "sectors" ∷ decimal n ∷ [] → 1 ≤ n → n ≤ 2048 → IsPassed (at_head Frames shape) l
+sectors_passed : (shape : Shape) (l : Line) (n : ℕ) → tokens l ≡ codes "sectors" ∷ decimal n ∷ [] → 1 ≤ n → n ≤ 2048 → IsPassed (at_head Frames shape) l
 unfolding key_of
 sectors_passed shape l n w low high =
     let k : key l ≡ Sectors = rw w refl in
@@ -81,14 +81,14 @@ sectors_passed shape l n w low high =
       frames = rw k refl;
     }
 
-pub sectors_said : (shape : Shape) (l : Line) (n : ℕ) → words l ≡ codes "sectors" ∷ decimal n ∷ [] → n < 2 ^ 32 → with_line (at_head Frames shape) l ≡ at_head Sectors (record shape { sectors = n })
+pub sectors_said : (shape : Shape) (l : Line) (n : ℕ) → tokens l ≡ codes "sectors" ∷ decimal n ∷ [] → n < 2 ^ 32 → with_line (at_head Frames shape) l ≡ at_head Sectors (record shape { sectors = n })
 unfolding with_line key_of
 sectors_said shape l n w small =
     let k : key l ≡ Sectors = rw w refl in
     let value = number_of_accepts n small in
     rw (k, w, value) refl
 
-quantum_passed : (shape : Shape) (l : Line) (n : ℕ) → words l ≡ codes "quantum" ∷ decimal n ∷ [] → 1 ≤ n → n ≤ 10000 → IsPassed (at_head Sectors shape) l
+quantum_passed : (shape : Shape) (l : Line) (n : ℕ) → tokens l ≡ codes "quantum" ∷ decimal n ∷ [] → 1 ≤ n → n ≤ 10000 → IsPassed (at_head Sectors shape) l
 unfolding key_of
 quantum_passed shape l n w low high =
     let k : key l ≡ Quantum = rw w refl in
@@ -110,14 +110,14 @@ quantum_passed shape l n w low high =
       frames = rw k refl;
     }
 
-pub quantum_said : (shape : Shape) (l : Line) (n : ℕ) → words l ≡ codes "quantum" ∷ decimal n ∷ [] → n < 2 ^ 32 → with_line (at_head Sectors shape) l ≡ at_head Quantum (record shape { quantum = n })
+pub quantum_said : (shape : Shape) (l : Line) (n : ℕ) → tokens l ≡ codes "quantum" ∷ decimal n ∷ [] → n < 2 ^ 32 → with_line (at_head Sectors shape) l ≡ at_head Quantum (record shape { quantum = n })
 unfolding with_line key_of
 quantum_said shape l n w small =
     let k : key l ≡ Quantum = rw w refl in
     let value = number_of_accepts n small in
     rw (k, w, value) refl
 
-budget_passed : (shape : Shape) (l : Line) (n : ℕ) → words l ≡ codes "budget" ∷ decimal n ∷ [] → 0 ≤ n → n ≤ 2000000 → IsPassed (at_head Quantum shape) l
+budget_passed : (shape : Shape) (l : Line) (n : ℕ) → tokens l ≡ codes "budget" ∷ decimal n ∷ [] → 0 ≤ n → n ≤ 2000000 → IsPassed (at_head Quantum shape) l
 unfolding key_of
 budget_passed shape l n w low high =
     let k : key l ≡ Budget = rw w refl in
@@ -139,7 +139,7 @@ budget_passed shape l n w low high =
       frames = rw k refl;
     }
 
-pub budget_said : (shape : Shape) (l : Line) (n : ℕ) → words l ≡ codes "budget" ∷ decimal n ∷ [] → n < 2 ^ 32 → with_line (at_head Quantum shape) l ≡ at_head Budget (record shape { budget = n })
+pub budget_said : (shape : Shape) (l : Line) (n : ℕ) → tokens l ≡ codes "budget" ∷ decimal n ∷ [] → n < 2 ^ 32 → with_line (at_head Quantum shape) l ≡ at_head Budget (record shape { budget = n })
 unfolding with_line key_of
 budget_said shape l n w small =
     let k : key l ≡ Budget = rw w refl in
@@ -158,7 +158,7 @@ number_line_read f g key n rest world clean other is said more =
 free_number_line : (key : List ℕ) (n : ℕ) → free 10 key ≡ true → n < 2 ^ 32 → free 10 (spaced key (decimal n)) ≡ true
 free_number_line key n clean small = free-append 10 key (32 ∷ decimal n) clean (free_decimal 10 n (omega arith) small)
 
-number_words : (key : List ℕ) (n : ℕ) → free 32 key ≡ true → n < 2 ^ 32 → words (spaced key (decimal n)) ≡ key ∷ decimal n ∷ []
+number_words : (key : List ℕ) (n : ℕ) → free 32 key ≡ true → n < 2 ^ 32 → tokens (spaced key (decimal n)) ≡ key ∷ decimal n ∷ []
 number_words key n clean small = two_words key (decimal n) clean (free_decimal 32 n (omega arith) small)
 
 pub head_read : (shape : Shape) (rest : List ℕ) (world : World) → IsShape shape → Reads (at_head Budget shape) rest world → Reads nothing_said (head_lines shape ++ rest) world

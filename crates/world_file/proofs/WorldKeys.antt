@@ -5,7 +5,7 @@ use Rattle.std.proofs.lemmas.Bool.{eqb-true}
 use Rattle.ow_base.specs.Lines.{hex8}
 use Rattle.world_file.specs.declared.key.Key.{Key}
 use Rattle.world_file.specs.declared.key.Key.TheVariants.{World, Frames, Sectors, Quantum, Budget, Program, Code, Data, Start, End, Unbuilt, Unknown}
-use Rattle.world_file.specs.WorldLines.{Line, words, word_at, fields, key, key_of, is_unbuilt_word, number_of, is_number, is_in, is_there, word_of, is_word}
+use Rattle.world_file.specs.WorldLines.{Line, tokens, token_at, fields, key, key_of, is_unbuilt_word, number_of, is_number, is_in, is_there, word_of, is_word}
 use Rattle.world_file.proofs.WorldPieces.{HasPiece, has_piece}
 use Rattle.world_file.proofs.WorldNumbers.{both_true, same_bytes, number_of_reads, word_of_reads}
 use Rattle.world_file.proofs.WorldFields.{le_true}
@@ -52,15 +52,15 @@ word_of_key w =
     (one_of (is_unbuilt_word w) Unbuilt Unknown w (λ h. tt) tt))))))))))
 
 -- a line of a key begins with the key's word
-pub first_word : (l : Line) (k : Key) → key l ≡ k → IsWordOf k (word_at 0 l)
-first_word l k e = subst (λ k. IsWordOf k (word_at 0 l)) e (word_of_key (word_at 0 l))
+pub first_word : (l : Line) (k : Key) → key l ≡ k → IsWordOf k (token_at 0 l)
+first_word l k e = subst (λ k. IsWordOf k (token_at 0 l)) e (word_of_key (token_at 0 l))
 
 split_words : (ws : List (List ℕ)) → HasPiece ws → ws ≡ get_or ws 0 [] ∷ drop 1 ws
 split_words ws h = rw h.2 refl
 
-pub words_split : (l : Line) → words l ≡ word_at 0 l ∷ fields l
-unfolding words
-words_split l = split_words (words l) (has_piece 32 l)
+pub words_split : (l : Line) → tokens l ≡ token_at 0 l ∷ fields l
+unfolding tokens
+words_split l = split_words (tokens l) (has_piece 32 l)
 
 -- lines of a key and one field, two fields, or none
 pub no_field : (fs : List (List ℕ)) → (length fs == 0) ≡ true → fs ≡ []
@@ -78,18 +78,18 @@ two_fields (f ∷ []) h = cc
 two_fields (f ∷ g ∷ []) h = refl
 two_fields (f ∷ g ∷ i ∷ fs) h = absurd (omega (arith, eqb-true (length (f ∷ g ∷ i ∷ fs)) 2 h))
 
-pub words_one : (l : Line) (word : List ℕ) → word_at 0 l ≡ word → (length (fields l) == 1) ≡ true → words l ≡ word ∷ word_at 1 l ∷ []
+pub words_one : (l : Line) (word : List ℕ) → token_at 0 l ≡ word → (length (fields l) == 1) ≡ true → tokens l ≡ word ∷ token_at 1 l ∷ []
 words_one l word e h =
-    let all = words_split l ∙ ap (λ fs. word_at 0 l ∷ fs) (one_field (fields l) h) ∙ ap (λ w. w ∷ get_or (fields l) 0 [] ∷ []) e in
-    let second : word_at 1 l ≡ get_or (fields l) 0 [] = ap (λ ws. get_or ws 1 []) all in
+    let all = words_split l ∙ ap (λ fs. token_at 0 l ∷ fs) (one_field (fields l) h) ∙ ap (λ w. w ∷ get_or (fields l) 0 [] ∷ []) e in
+    let second : token_at 1 l ≡ get_or (fields l) 0 [] = ap (λ ws. get_or ws 1 []) all in
     all ∙ ap (λ f. word ∷ f ∷ []) (sym second)
 
-pub words_two : (l : Line) (word : List ℕ) → word_at 0 l ≡ word → (length (fields l) == 2) ≡ true → words l ≡ word ∷ word_at 1 l ∷ word_at 2 l ∷ []
+pub words_two : (l : Line) (word : List ℕ) → token_at 0 l ≡ word → (length (fields l) == 2) ≡ true → tokens l ≡ word ∷ token_at 1 l ∷ token_at 2 l ∷ []
 words_two l word e h =
-    let all = words_split l ∙ ap (λ fs. word_at 0 l ∷ fs) (two_fields (fields l) h) ∙ ap (λ w. w ∷ get_or (fields l) 0 [] ∷ get_or (fields l) 1 [] ∷ []) e in
-    let second : word_at 1 l ≡ get_or (fields l) 0 [] = ap (λ ws. get_or ws 1 []) all in
-    let third : word_at 2 l ≡ get_or (fields l) 1 [] = ap (λ ws. get_or ws 2 []) all in
-    all ∙ ap (λ f. word ∷ f ∷ get_or (fields l) 1 [] ∷ []) (sym second) ∙ ap (λ f. word ∷ word_at 1 l ∷ f ∷ []) (sym third)
+    let all = words_split l ∙ ap (λ fs. token_at 0 l ∷ fs) (two_fields (fields l) h) ∙ ap (λ w. w ∷ get_or (fields l) 0 [] ∷ get_or (fields l) 1 [] ∷ []) e in
+    let second : token_at 1 l ≡ get_or (fields l) 0 [] = ap (λ ws. get_or ws 1 []) all in
+    let third : token_at 2 l ≡ get_or (fields l) 1 [] = ap (λ ws. get_or ws 2 []) all in
+    all ∙ ap (λ f. word ∷ f ∷ get_or (fields l) 1 [] ∷ []) (sym second) ∙ ap (λ f. word ∷ token_at 1 l ∷ f ∷ []) (sym third)
 
 -- a field that is a number in a range
 in_range : (low high : ℕ) (o : Option ℕ) → is_in low high o ≡ true → (n : ℕ) × (o ≡ Some n) × (low ≤ n) × (n ≤ high)

@@ -8,7 +8,7 @@ use Rattle.ow_base.specs.declared.worlds.Program.{Program}
 use Rattle.ow_base.specs.declared.worlds.Start.{Start as Started}
 use Rattle.world_file.specs.declared.key.Key.{Key}
 use Rattle.world_file.specs.declared.key.Key.TheVariants.{World as WorldKey, Frames, Sectors, Quantum, Budget, Program as ProgramKey, Code, Data}
-use Rattle.world_file.specs.WorldLines.{Line, words, word_at, fields, key, is_number, is_empty}
+use Rattle.world_file.specs.WorldLines.{Line, tokens, token_at, fields, key, is_number, is_empty}
 use Rattle.world_file.specs.WorldFacts.{Facts, no_shape, has_name}
 use Rattle.world_file.specs.WorldReasons.{place_of, is_barred, is_taken, has_fields, has_no_number, has_too_many_words}
 use Rattle.world_file.specs.declared.reasons.Place.{Place}
@@ -89,16 +89,16 @@ pub may_stand : (f : Facts) (l : Line) → IsPassed f l → place_of (key l) f �
 may_stand f l is = free_place (place_of (key l) f) is.word (neither (is_taken (place_of (key l) f)) (has_too_many_words (key l) f l) is.count).0
 
 pub field_count : (f : Facts) (l : Line) (k : Key) → key l ≡ k → IsPassed f l → has_fields k (length (fields l)) ≡ true
-field_count f l k e is = subst (λ k. has_fields k (length (fields l)) ≡ true) e (not_false (has_fields (key l) (length (fields l))) (neither (not (has_fields (key l) (length (fields l)))) (list_any is_empty (words l)) is.fields).0)
+field_count f l k e is = subst (λ k. has_fields k (length (fields l)) ≡ true) e (not_false (has_fields (key l) (length (fields l))) (neither (not (has_fields (key l) (length (fields l)))) (list_any is_empty (tokens l)) is.fields).0)
 
 -- a line of a key and one number
 abbrev pub IsLimit : (low high : ℕ) (word : List ℕ) (l : Line) → Type 0
-IsLimit low high word l = (n : ℕ) × (words l ≡ word ∷ decimal n ∷ []) × IsIn low high n × (n < 2 ^ 32)
+IsLimit low high word l = (n : ℕ) × (tokens l ≡ word ∷ decimal n ∷ []) × IsIn low high n × (n < 2 ^ 32)
 
-pub limit_found : (f : Facts) (l : Line) (low high : ℕ) (word : List ℕ) (k : Key) → key l ≡ k → word_at 0 l ≡ word → has_fields k (length (fields l)) ≡ (length (fields l) == 1)
-    → has_no_number k l ≡ not (is_number low high (word_at 1 l)) → IsPassed f l → IsLimit low high word l
+pub limit_found : (f : Facts) (l : Line) (low high : ℕ) (word : List ℕ) (k : Key) → key l ≡ k → token_at 0 l ≡ word → has_fields k (length (fields l)) ≡ (length (fields l) == 1)
+    → has_no_number k l ≡ not (is_number low high (token_at 1 l)) → IsPassed f l → IsLimit low high word l
 limit_found f l low high word k e first count number is =
     let w = words_one l word first (sym count ∙ field_count f l k e is) in
-    let read = not_false (is_number low high (word_at 1 l)) (sym number ∙ ap (λ k. has_no_number k l) (sym e) ∙ is.number) in
-    let found = number_found low high (word_at 1 l) read in
+    let read = not_false (is_number low high (token_at 1 l)) (sym number ∙ ap (λ k. has_no_number k l) (sym e) ∙ is.number) in
+    let found = number_found low high (token_at 1 l) read in
     (found.0, w ∙ ap (λ x. word ∷ x ∷ []) found.1, (found.2, found.3), found.4)

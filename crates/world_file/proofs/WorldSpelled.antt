@@ -3,17 +3,17 @@ use Rattle.std.proofs.Common.{◌≡◌, ℕ, ◌^◌, ◌<◌, ◌≤◌, true,
 use Rattle.std.specs.List.{AllByRecursion, flat_map, list_all, list_any, filter_map}
 use Rattle.std.proofs.lemmas.Fmt.{decimal_is_IsNumeral}
 use Rattle.ow_base.specs.Lines.{spaced, hex8}
-use Rattle.world_file.specs.WorldLines.{Line, words, pieces, word_of, is_word, is_empty}
+use Rattle.world_file.specs.WorldLines.{Line, tokens, pieces, word_of, is_word, is_empty}
 use Rattle.world_file.proofs.WorldPieces.{free, free-append, pieces_front, pieces_only, joined, joined-pieces}
 use Rattle.world_file.proofs.WorldNumbers.{word_of_accepts}
 use Rattle.world_file.proofs.WorldFields.{free_hex8}
 
-pub two_words : (a b : List ℕ) → free 32 a ≡ true → free 32 b ≡ true → words (spaced a b) ≡ a ∷ b ∷ []
-unfolding words
+pub two_words : (a b : List ℕ) → free 32 a ≡ true → free 32 b ≡ true → tokens (spaced a b) ≡ a ∷ b ∷ []
+unfolding tokens
 two_words a b ha hb = pieces_front 32 a b ha ∙ ap (λ ws. a ∷ ws) (pieces_only 32 b hb)
 
-pub three_words : (a b c : List ℕ) → free 32 a ≡ true → free 32 b ≡ true → free 32 c ≡ true → words (spaced (spaced a b) c) ≡ a ∷ b ∷ c ∷ []
-unfolding words
+pub three_words : (a b c : List ℕ) → free 32 a ≡ true → free 32 b ≡ true → free 32 c ≡ true → tokens (spaced (spaced a b) c) ≡ a ∷ b ∷ c ∷ []
+unfolding tokens
 three_words a b c ha hb hc =
     ap (pieces 32) (append_assoc a (32 ∷ b) (32 ∷ c)) ∙ pieces_front 32 a (b ++ (32 ∷ c)) ha
     ∙ ap (λ ws. a ∷ ws) (pieces_front 32 b c hb ∙ ap (λ ws. b ∷ ws) (pieces_only 32 c hc))
@@ -22,8 +22,8 @@ three_words a b c ha hb hc =
 abbrev pub word_text : ℕ → List ℕ
 word_text w = 32 ∷ hex8 w
 
-pub word_line_words : (a ws : List ℕ) → free 32 a ≡ true → words (a ++ flat_map word_text ws) ≡ a ∷ map hex8 ws
-unfolding words
+pub word_line_words : (a ws : List ℕ) → free 32 a ≡ true → tokens (a ++ flat_map word_text ws) ≡ a ∷ map hex8 ws
+unfolding tokens
 word_line_words a [] ha = ap (pieces 32) (append-nil a) ∙ pieces_only 32 a ha
 word_line_words a (w ∷ ws) ha =
     pieces_front 32 a (hex8 w ++ flat_map word_text ws) ha
@@ -63,14 +63,14 @@ count_of_words [] = refl
 count_of_words (w ∷ ws) = omega (arith, count_of_words ws)
 
 -- a line is its words with spaces between
-pub spelled_words : (l : Line) → l ≡ joined 32 (words l)
-unfolding words
+pub spelled_words : (l : Line) → l ≡ joined 32 (tokens l)
+unfolding tokens
 spelled_words l = sym (joined-pieces 32 l)
 
-pub spelled_two : (l : Line) (a b : List ℕ) → words l ≡ a ∷ b ∷ [] → l ≡ spaced a b
+pub spelled_two : (l : Line) (a b : List ℕ) → tokens l ≡ a ∷ b ∷ [] → l ≡ spaced a b
 spelled_two l a b h = spelled_words l ∙ ap (joined 32) h ∙ ap (λ t. a ++ (32 ∷ t)) (append-nil b)
 
-pub spelled_three : (l : Line) (a b c : List ℕ) → words l ≡ a ∷ b ∷ c ∷ [] → l ≡ spaced (spaced a b) c
+pub spelled_three : (l : Line) (a b c : List ℕ) → tokens l ≡ a ∷ b ∷ c ∷ [] → l ≡ spaced (spaced a b) c
 spelled_three l a b c h =
     spelled_words l ∙ ap (joined 32) h ∙ ap (λ t. a ++ (32 ∷ (b ++ (32 ∷ t)))) (append-nil c)
     ∙ sym (append_assoc a (32 ∷ b) (32 ∷ c))

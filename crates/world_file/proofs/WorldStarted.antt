@@ -9,7 +9,7 @@ use Rattle.ow_base.specs.declared.worlds.Program.{Program}
 use Rattle.ow_base.specs.declared.worlds.Start.{Start as Started}
 use Rattle.world_file.specs.declared.key.Key.{Key}
 use Rattle.world_file.specs.declared.key.Key.TheVariants.{Budget, Program as ProgramKey, Code, Data, Start, End}
-use Rattle.world_file.specs.WorldLines.{Line, word_at, fields, key, number_of, is_number}
+use Rattle.world_file.specs.WorldLines.{Line, token_at, fields, key, number_of, is_number}
 use Rattle.world_file.specs.WorldFacts.{Facts, has_name}
 use Rattle.world_file.specs.WorldReasons.{place_of, has_no_number, names_no_program, exceeds_frames}
 use Rattle.world_file.specs.declared.reasons.Place.TheVariants.{Free}
@@ -43,8 +43,8 @@ any_found [] name h = cc
 any_found (q ∷ programs) name h = found_first (bytes_eq q.name name) q programs name refl h (any_found programs name)
 
 -- what is said with a start line
-start_given : (k : Key) (shape : Shape) (done : List Program) (o : Option Program) (before : List Started) (l : Line) (tty : ℕ) → key l ≡ Start → number_of (word_at 2 l) ≡ Some tty
-    → with_line (before_start k shape done o before) l ≡ at_start shape (done ++ option_to_list o) (before ++ record { program = position_or_len (has_name (word_at 1 l)) (done ++ option_to_list o); tty = tty } ∷ [])
+start_given : (k : Key) (shape : Shape) (done : List Program) (o : Option Program) (before : List Started) (l : Line) (tty : ℕ) → key l ≡ Start → number_of (token_at 2 l) ≡ Some tty
+    → with_line (before_start k shape done o before) l ≡ at_start shape (done ++ option_to_list o) (before ++ record { program = position_or_len (has_name (token_at 1 l)) (done ++ option_to_list o); tty = tty } ∷ [])
 unfolding with_line
 start_given k shape done o before l tty key_is value = rw (key_is, value) refl
 
@@ -52,8 +52,8 @@ start_given k shape done o before l tty key_is value = rw (key_is, value) refl
 pub record IsStartLine (shape : Shape) (programs : List Program) (before : List Started) (l : Line) : Type 0 where
   pub start : Started
   pub program : Program
-  pub place : position_or_len (has_name (word_at 1 l)) programs ≡ start.program
-  pub value : number_of (word_at 2 l) ≡ Some start.tty
+  pub place : position_or_len (has_name (token_at 1 l)) programs ≡ start.program
+  pub value : number_of (token_at 2 l) ≡ Some start.tty
   pub found : slice_get programs start.program ≡ Some program
   pub tty : start.tty < 2
   pub fits : start_pages programs (before ++ start ∷ []) ≤ shape.user_frames
@@ -64,9 +64,9 @@ start_found : (k : Key) (shape : Shape) (done : List Program) (o : Option Progra
 start_found k shape done o before l key_is p =
     let f = before_start k shape done o before in
     let programs = done ++ option_to_list o in
-    let name = word_at 1 l in
+    let name = token_at 1 l in
     let w = words_two l (codes "start") (first_word l Start key_is) (field_count f l Start key_is p) in
-    let number = number_found 0 1 (word_at 2 l) (not_false (is_number 0 1 (word_at 2 l)) (subst (λ k. has_no_number k l ≡ false) key_is p.number)) in
+    let number = number_found 0 1 (token_at 2 l) (not_false (is_number 0 1 (token_at 2 l)) (subst (λ k. has_no_number k l ≡ false) key_is p.number)) in
     let tty = number.0 in
     let any = not_false (list_any (has_name name) programs) (subst (λ k. names_no_program k f l ≡ false) key_is p.program) in
     let found = any_found programs name any in
@@ -82,8 +82,8 @@ start_found k shape done o before l key_is p =
       found = at_place;
       tty = omega (arith, number.3);
       fits = omega (arith, room, pages_push programs before start, same);
-      spelled = spelled_three l (codes "start") name (word_at 2 l) w
-          ∙ ap (λ n. spaced (spaced (codes "start") n) (word_at 2 l)) (sym found.2) ∙ ap (λ d. spaced (spaced (codes "start") found.0.name) d) number.1;
+      spelled = spelled_three l (codes "start") name (token_at 2 l) w
+          ∙ ap (λ n. spaced (spaced (codes "start") n) (token_at 2 l)) (sym found.2) ∙ ap (λ d. spaced (spaced (codes "start") found.0.name) d) number.1;
     }
 
 -- a start line, behind other starts or the first
@@ -147,7 +147,7 @@ after_data text f l shape done program opened e is other key_is free = cc
 end_line : (f : Facts) (l : Line) → key l ≡ End → IsPassed f l → l ≡ codes "end"
 end_line f l e is =
     let none = no_field (fields l) (field_count f l End e is) in
-    spelled_words l ∙ ap (joined 32) (words_split l ∙ ap (λ fs. word_at 0 l ∷ fs) none ∙ ap (λ w. w ∷ []) (first_word l End e))
+    spelled_words l ∙ ap (joined 32) (words_split l ∙ ap (λ fs. token_at 0 l ∷ fs) none ∙ ap (λ w. w ∷ []) (first_word l End e))
 
 after_start : (text : List ℕ) (f : Facts) (l : Line) (shape : Shape) (programs : List Program) (starts : List Started) → 1 ≤ length programs → AreStarted text shape programs starts
     → f ≡ at_start shape programs starts → IsPassed f l → bytes_eq l (codes "end") ≡ false → (k : Key) → key l ≡ k → place_of k (at_start shape programs starts) ≡ Free → SoFar (text ++ line l) (with_line f l)

@@ -3,7 +3,7 @@ use Rattle.std.proofs.Common.{◌≡◌, ℕ, Bool, List, [], ◌∷◌, ◌++�
 use Rattle.std.specs.List.{list_any, list_all, cons_option}
 use Rattle.std.proofs.lemmas.List.{map-append}
 use Rattle.std.proofs.lemmas.List.Folds.{list_all-map}
-use Rattle.world_file.specs.WorldLines.{pieces, words, word_of}
+use Rattle.world_file.specs.WorldLines.{pieces, tokens, word_of}
 
 -- the bytes of each
 abbrev pub seen : List (Bor (List ℕ)) → List (List ℕ)
@@ -27,6 +27,6 @@ pub words_of_map : (refs : List (Bor (List ℕ))) (all : List (List ℕ)) → se
 words_of_map refs all h = sym (filter_by word_of (λ field. field.now) refs) ∙ ap (filter_map word_of) h
 
 -- one more word, and those of the rest
-pub words_end : (refs : List (Bor (List ℕ))) (last : Bor (List ℕ)) (line : List ℕ) → pieces 32 last.now ≡ last.now ∷ [] → seen refs ++ pieces 32 last.now ≡ pieces 32 line → seen (refs ++ last ∷ []) ≡ words line
-unfolding words
+pub words_end : (refs : List (Bor (List ℕ))) (last : Bor (List ℕ)) (line : List ℕ) → pieces 32 last.now ≡ last.now ∷ [] → seen refs ++ pieces 32 last.now ≡ pieces 32 line → seen (refs ++ last ∷ []) ≡ tokens line
+unfolding tokens
 words_end refs last line whole h = map-append (λ word. word.now) refs (last ∷ []) ∙ ap (λ more. seen refs ++ more) (sym whole) ∙ h

@@ -6,7 +6,7 @@ use Rattle.ow_base.specs.declared.worlds.Program.{Program}
 use Rattle.ow_base.specs.declared.worlds.Start.{Start as Started}
 use Rattle.world_file.specs.declared.key.Key.{Key}
 use Rattle.world_file.specs.declared.key.Key.TheVariants.{Frames, Sectors, Quantum, Budget, Program as ProgramKey, Code, Data, Start}
-use Rattle.world_file.specs.WorldLines.{Line, key, word_at, number_at, words_of}
+use Rattle.world_file.specs.WorldLines.{Line, key, token_at, number_at, words_of}
 
 -- what the line before is
 unfoldable pub last_key : List Line → Option Key
@@ -36,7 +36,7 @@ abbrev pub with_values : List ℕ → Program → Program
 with_values words program = record program { values = program.values ++ words }
 
 abbrev pub opened_by : Key → Line → Option Program → Option Program
-opened_by ProgramKey line before = Some (record { name = word_at 1 line; code = []; values = [] })
+opened_by ProgramKey line before = Some (record { name = token_at 1 line; code = []; values = [] })
 opened_by Code line before = option_map (with_code (words_of line)) before
 opened_by Data line before = option_map (with_values (words_of line)) before
 opened_by Start line before = None
@@ -61,7 +61,7 @@ abbrev pub has_name : (name : List ℕ) → Program → Bool
 has_name name program = bytes_eq program.name name
 
 abbrev pub start_of : List Program → Line → Started
-start_of programs line = record { program = position_or_len (has_name (word_at 1 line)) programs; tty = number_at 2 line }
+start_of programs line = record { program = position_or_len (has_name (token_at 1 line)) programs; tty = number_at 2 line }
 
 abbrev pub starts_by : Key → Line → List Program → List Started → List Started
 starts_by Start line programs before = before ++ start_of programs line ∷ []

@@ -1,4 +1,4 @@
--- What a line of a world text is by itself: its words, what its first word makes it, and its fields.
+-- What a line of a world text is by itself: its tokens, what the first of them makes it, and its fields.
 use Rattle.std.specs.Prelude.{ℕ, ◌^◌, Bool, true, false, nat_lt, nat_le, ◌&&◌, ◌||◌, ◌==◌, if◌then◌else◌, List, [], ◌∷◌, length, get_or, drop, filter_map, codes, decimal, bytes_eq, Option, Some, None, unwrap_or}
 use Rattle.std.specs.List.{list_all}
 use Rattle.std.specs.Str.Parse.{digits_value}
@@ -19,19 +19,19 @@ unfoldable pub pieces : (separator : ℕ) → List ℕ → List (List ℕ)
 pieces separator [] = [] ∷ []
 pieces separator (b ∷ bs) = if b == separator then [] ∷ pieces separator bs else with_byte b (pieces separator bs)
 
--- the words of a line, between single spaces; a word may be empty
-unfoldable pub words : Line → List (List ℕ)
-words line = pieces 32 line
+-- the tokens of a line, between single spaces; one may be empty
+unfoldable pub tokens : Line → List (List ℕ)
+tokens line = pieces 32 line
 
--- a word of a line, the first being word 0
-abbrev pub word_at : (place : ℕ) → Line → List ℕ
-word_at place line = get_or (words line) place []
+-- a token of a line, the first being token 0
+abbrev pub token_at : (place : ℕ) → Line → List ℕ
+token_at place line = get_or (tokens line) place []
 
--- the words behind the first
+-- the tokens behind the first
 abbrev pub fields : Line → List (List ℕ)
-fields line = drop 1 (words line)
+fields line = drop 1 (tokens line)
 
--- what a line is by its first word
+-- what a line is by its first token
 abbrev pub is_unbuilt_word : List ℕ → Bool
 is_unbuilt_word word = bytes_eq word (codes "file") || (bytes_eq word (codes "put") || (bytes_eq word (codes "type")
     || (bytes_eq word (codes "panic") || (bytes_eq word (codes "damage") || bytes_eq word (codes "again")))))
@@ -51,7 +51,7 @@ key_of word =
     if is_unbuilt_word word then Unbuilt else Unknown
 
 abbrev pub key : Line → Key
-key line = key_of (word_at 0 line)
+key line = key_of (token_at 0 line)
 
 -- the number below 2 ^ 32 that is spelled so
 abbrev pub number_read : (value : ℕ) (spelling text : List ℕ) → Option ℕ
@@ -92,8 +92,8 @@ is_empty (b ∷ bs) = false
 
 -- the number that a field is, 0 where it is none
 abbrev pub number_at : (place : ℕ) → Line → ℕ
-number_at place line = unwrap_or (number_of (word_at place line)) 0
+number_at place line = unwrap_or (number_of (token_at place line)) 0
 
--- the words that the fields are
+-- the numbers that the fields are, as words of eight digits
 unfoldable pub words_of : Line → List ℕ
 words_of line = filter_map word_of (fields line)

@@ -9,7 +9,7 @@ use Rattle.world_file.specs.declared.reasons.Place.{Place}
 use Rattle.world_file.specs.declared.reasons.Place.TheVariants.{Free, Taken, Barred}
 use Rattle.world_file.specs.declared.why.Why.{Why}
 use Rattle.world_file.specs.declared.why.Why.TheVariants.{FirstLine, NotBuilt, Word, TooMany, Fields, Number, Name, Hex, Escape, Twice, NoSuchProgram, Order, Frames as TooManyFrames, Sectors as TooManySectors, End as NoEnd, TooLarge}
-use Rattle.world_file.specs.WorldLines.{Line, words, word_at, fields, key, is_number, is_name, is_word, is_empty, is_there}
+use Rattle.world_file.specs.WorldLines.{Line, tokens, token_at, fields, key, is_number, is_name, is_word, is_empty, is_there}
 use Rattle.world_file.specs.WorldFacts.{Facts, facts, programs_of, has_name}
 
 -- the reasons in words
@@ -155,20 +155,20 @@ has_fields End n = n == 0
 has_fields other n = true
 
 abbrev pub lacks_fields : Line → Bool
-lacks_fields line = not (has_fields (key line) (length (fields line))) || list_any is_empty (words line)
+lacks_fields line = not (has_fields (key line) (length (fields line))) || list_any is_empty (tokens line)
 
 -- a field that is no numeral, or out of its range
 abbrev pub has_no_number : Key → Line → Bool
-has_no_number Frames line = not (is_number 16 384 (word_at 1 line))
-has_no_number Sectors line = not (is_number 1 2048 (word_at 1 line))
-has_no_number Quantum line = not (is_number 1 10000 (word_at 1 line))
-has_no_number Budget line = not (is_number 0 2000000 (word_at 1 line))
-has_no_number Start line = not (is_number 0 1 (word_at 2 line))
+has_no_number Frames line = not (is_number 16 384 (token_at 1 line))
+has_no_number Sectors line = not (is_number 1 2048 (token_at 1 line))
+has_no_number Quantum line = not (is_number 1 10000 (token_at 1 line))
+has_no_number Budget line = not (is_number 0 2000000 (token_at 1 line))
+has_no_number Start line = not (is_number 0 1 (token_at 2 line))
 has_no_number other line = false
 
 abbrev pub has_no_name : Key → Line → Bool
-has_no_name ProgramKey line = not (is_name (word_at 1 line))
-has_no_name Start line = not (is_name (word_at 1 line))
+has_no_name ProgramKey line = not (is_name (token_at 1 line))
+has_no_name Start line = not (is_name (token_at 1 line))
 has_no_name other line = false
 
 abbrev pub has_no_word : Key → Line → Bool
@@ -178,11 +178,11 @@ has_no_word other line = false
 
 -- the program's name again
 abbrev pub comes_twice : Key → Facts → Line → Bool
-comes_twice ProgramKey f line = list_any (has_name (word_at 1 line)) (programs_of f)
+comes_twice ProgramKey f line = list_any (has_name (token_at 1 line)) (programs_of f)
 comes_twice other f line = false
 
 abbrev pub names_no_program : Key → Facts → Line → Bool
-names_no_program Start f line = not (list_any (has_name (word_at 1 line)) (programs_of f))
+names_no_program Start f line = not (list_any (has_name (token_at 1 line)) (programs_of f))
 names_no_program other f line = false
 
 -- the pages that a start of the program with this name needs
@@ -191,7 +191,7 @@ named_pages name programs = pages_of_found (find (has_name name) programs)
 
 -- the pages of all starts, with this one, are more than the frames
 abbrev pub exceeds_frames : Key → Facts → Line → Bool
-exceeds_frames Start f line = nat_lt f.shape.user_frames (start_pages (programs_of f) f.starts + named_pages (word_at 1 line) (programs_of f))
+exceeds_frames Start f line = nat_lt f.shape.user_frames (start_pages (programs_of f) f.starts + named_pages (token_at 1 line) (programs_of f))
 exceeds_frames other f line = false
 
 -- whether a reason holds for a line; what gives `escape`, `order` and `sectors` is on lines of forms that

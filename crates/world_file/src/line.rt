@@ -1,8 +1,8 @@
-//! One line of a world text: its words and fields.
+//! One line of a world text: its tokens and fields.
 
 ghost use Rattle.std.specs.Prelude.{◌≡◌, ℕ, ◌+◌, ◌<◌, ◌++◌, List, [], ◌∷◌, length, map, filter_map, IfSome, IfNone, IfOk};
 ghost use Rattle.std.specs.List.{list_all, list_any};
-ghost use Rattle.world_file.specs.WorldLines.{pieces, words, word_at, fields, key, number_of, word_of, is_visible, is_name, is_number, is_word, is_empty, number_at, words_of};
+ghost use Rattle.world_file.specs.WorldLines.{pieces, tokens, token_at, fields, key, number_of, word_of, is_visible, is_name, is_number, is_word, is_empty, number_at, words_of};
 
 use crate::key::Key;
 use ow_base::{decimal, hex8};
@@ -24,13 +24,13 @@ pub fn cut(separator: u8, text: &[u8]) -> Option<(&[u8], &[u8])>
 }
 
 // The pieces of a line between single spaces.
-fn words_in(alloc: Global, line: &[u8]) -> Result<Vec<&[u8]>, AllocError>
-    ensures { IfOk result (λ all. map (λ word. word.now) all.items ≡ words line.now) }
+fn tokens_in(alloc: Global, line: &[u8]) -> Result<Vec<&[u8]>, AllocError>
+    ensures { IfOk result (λ all. map (λ token. token.now) all.items ≡ tokens line.now) }
 {
     let mut all = Vec::new(alloc);
     let mut rest = line;
-    while let Some((word, others)) = cut(b' ', rest) {
-        all.push(word)?;
+    while let Some((token, others)) = cut(b' ', rest) {
+        all.push(token)?;
         rest = others;
     }
     all.push(rest)?;
@@ -71,16 +71,16 @@ pub fn is_name(name: &[u8]) -> bool
     (1..=24).contains(&name.len()) && are_visible(name)
 }
 
-fn is_empty(word: &[u8]) -> bool
-    ensures { result ≡ is_empty word.now }
+fn is_empty(token: &[u8]) -> bool
+    ensures { result ≡ is_empty token.now }
 {
-    word.is_empty()
+    token.is_empty()
 }
 
-fn has_empty(words: &[&[u8]]) -> bool
-    ensures { result ≡ list_any (λ word. is_empty word.now) words.now }
+fn has_empty(tokens: &[&[u8]]) -> bool
+    ensures { result ≡ list_any (λ token. is_empty token.now) tokens.now }
 {
-    words.iter().any(|word| is_empty(*word))
+    tokens.iter().any(|token| is_empty(*token))
 }
 
 fn is_word(field: &[u8]) -> bool
@@ -117,13 +117,13 @@ pub struct Line<'a> {
 
 impl<'a> Model for Line<'a> {
     ghost use Rattle.std.specs.Prelude.{◌≡◌, ℕ, List, map};
-    ghost use Rattle.world_file.specs.WorldLines.{words};
+    ghost use Rattle.world_file.specs.WorldLines.{tokens};
 
     ghost Value = { List ℕ };
 
     ghost view = { λ l. l.bytes.now };
 
-    ghost invariant = { λ l. map (λ word. word.now) l.parts.items ≡ words l.bytes.now };
+    ghost invariant = { λ l. map (λ token. token.now) l.parts.items ≡ tokens l.bytes.now };
 }
 
 impl<'a> Line<'a> {
@@ -131,7 +131,7 @@ impl<'a> Line<'a> {
     pub fn new(alloc: Global, bytes: &'a [u8]) -> Result<Line<'a>, AllocError>
         ensures { IfOk result (λ line. line ≡ bytes.now) }
     {
-        let parts = words_in(alloc, bytes)?;
+        let parts = tokens_in(alloc, bytes)?;
         Ok(Line { bytes, parts })
     }
 
@@ -142,66 +142,66 @@ impl<'a> Line<'a> {
         self.bytes
     }
 
-    /// A word of it, the first being word 0. It is empty where there is none.
-    pub fn word(&self, place: usize) -> &'a [u8]
-        ensures { result.now ≡ word_at place self.now }
+    /// A token of it, the first being token 0. It is empty where there is none.
+    pub fn token(&self, place: usize) -> &'a [u8]
+        ensures { result.now ≡ token_at place self.now }
     {
         match self.parts.get(place) {
-            Some(word) => *word,
+            Some(token) => *token,
             None => b"",
         }
     }
 
-    /// What its first word makes it.
+    /// What its first token makes it.
     pub fn key(&self) -> Key
         ensures { result ≡ key self.now }
     {
-        Key::of(self.word(0))
+        Key::of(self.token(0))
     }
 
-    /// How many words stand behind the first.
+    /// How many tokens stand behind the first.
     pub fn field_count(&self) -> usize
         ensures { result ≡ length (fields self.now) }
     {
         self.parts.len().saturating_sub(1)
     }
 
-    // The words behind the first.
+    // The tokens behind the first.
     fn fields(&self) -> &[&'a [u8]]
         ensures { map (λ field. field.now) result.now ≡ fields self.now }
     {
         &self.parts[self.parts.len().min(1)..]
     }
 
-    /// One of its words is empty.
-    pub fn has_empty_word(&self) -> bool
-        ensures { result ≡ list_any is_empty (words self.now) }
+    /// One of its tokens is empty.
+    pub fn has_empty_token(&self) -> bool
+        ensures { result ≡ list_any is_empty (tokens self.now) }
     {
         has_empty(&self.parts)
     }
 
-    /// The words behind the first are eight digits each.
+    /// The tokens behind the first are words of eight digits each.
     pub fn has_words(&self) -> bool
         ensures { result ≡ list_all is_word (fields self.now) }
     {
         are_words(self.fields())
     }
 
-    /// A word of it is a numeral from the lowest to the highest number.
+    /// A token of it is a numeral from the lowest to the highest number.
     pub fn has_number(&self, place: usize, lowest: u32, highest: u32) -> bool
-        ensures { result ≡ is_number lowest highest (word_at place self.now) }
+        ensures { result ≡ is_number lowest highest (token_at place self.now) }
     {
-        match number_of(self.word(place)) {
+        match number_of(self.token(place)) {
             Some(number) => (lowest..=highest).contains(&number),
             None => false,
         }
     }
 
-    /// The number that a word of it is, 0 where it is none.
+    /// The number that a token of it is, 0 where it is none.
     pub fn number(&self, place: usize) -> u32
         ensures { result ≡ number_at place self.now }
     {
-        number_of(self.word(place)).unwrap_or(0)
+        number_of(self.token(place)).unwrap_or(0)
     }
 
     /// These words, and behind them those that are eight digits behind its first.

@@ -124,7 +124,7 @@ fn has_fields(key: Key, count: usize) -> bool
 fn lacks_fields(line: &Line) -> bool
     ensures { result ≡ lacks_fields line.now }
 {
-    !has_fields(line.key(), line.field_count()) || line.has_empty_word()
+    !has_fields(line.key(), line.field_count()) || line.has_empty_token()
 }
 
 fn has_no_number(key: Key, line: &Line) -> bool
@@ -144,7 +144,7 @@ fn has_no_name(key: Key, line: &Line) -> bool
     ensures { result ≡ has_no_name key line.now }
 {
     match key {
-        Key::Program | Key::Start => !is_name(line.word(1)),
+        Key::Program | Key::Start => !is_name(line.token(1)),
         _ => false,
     }
 }
@@ -163,7 +163,7 @@ fn comes_twice(key: Key, so_far: &SoFar, line: &Line) -> bool
     ensures { result ≡ comes_twice key so_far.now line.now }
 {
     match key {
-        Key::Program => so_far.has_program(line.word(1)),
+        Key::Program => so_far.has_program(line.token(1)),
         _ => false,
     }
 }
@@ -172,7 +172,7 @@ fn names_no_program(key: Key, so_far: &SoFar, line: &Line) -> bool
     ensures { result ≡ names_no_program key so_far.now line.now }
 {
     match key {
-        Key::Start => !so_far.has_program(line.word(1)),
+        Key::Start => !so_far.has_program(line.token(1)),
         _ => false,
     }
 }
@@ -182,7 +182,7 @@ fn exceeds_frames(key: Key, so_far: &SoFar, line: &Line) -> bool
     ensures { result ≡ exceeds_frames key so_far.now line.now }
 {
     match key {
-        Key::Start => so_far.lacks_frames(line.word(1)),
+        Key::Start => so_far.lacks_frames(line.token(1)),
         _ => false,
     }
 }

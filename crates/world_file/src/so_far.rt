@@ -5,7 +5,7 @@ ghost use Rattle.std.specs.List.{list_any, position_or_len};
 ghost use Rattle.ow_base.specs.World.{page_count, started_page_count, pages_of_found, start_pages};
 ghost use Rattle.ow_base.specs.declared.worlds.Program.{Program};
 ghost use Rattle.world_file.specs.declared.key.Key.TheVariants.{Program as ProgramKey};
-ghost use Rattle.world_file.specs.WorldLines.{key, word_at, number_at, words_of};
+ghost use Rattle.world_file.specs.WorldLines.{key, token_at, number_at, words_of};
 ghost use Rattle.world_file.specs.WorldFacts.{Facts, programs_of, no_shape, with_limit, with_code, with_values, opened_by, finished_by, starts_by, start_of, has_name};
 ghost use Rattle.world_file.specs.WorldReasons.{code_count, data_count, named_pages};
 ghost use Rattle.world_file.specs.WorldReading.{nothing_said, with_line, world_of};
@@ -244,7 +244,7 @@ impl SoFar {
                 last,
                 shape,
                 finished: finished_with(finished, opened)?,
-                opened: Some(Block::new(alloc, line.word(1))?),
+                opened: Some(Block::new(alloc, line.token(1))?),
                 starts,
             }),
             Key::Start => {
@@ -430,7 +430,7 @@ fn starts_with(
 {
     let mut all = starts;
     all.push(Start {
-        program: place_of(programs, line.word(1)),
+        program: place_of(programs, line.token(1)),
         tty: line.number(2),
     })?;
     Ok(all)

@@ -1,6 +1,6 @@
 use Rattle.std.proofs.Common.{ap, ◌∙◌}
 use Rattle.std.specs.Prelude.{decimal}
-use Rattle.otherworld.specs.declared.ow_report.Word.TheVariants.{Key, Number}
+use Rattle.otherworld.specs.declared.ow_report.Token.TheVariants.{Key, Number}
 use Rattle.otherworld.proofs.Reports.{exit_line}
 use Rattle.otherworld.proofs.ow_report.put_exit.Goals as goal
 

@@ -1,6 +1,6 @@
 use Rattle.std.proofs.Common.{ap, refl}
 use Rattle.std.specs.Prelude.{decimal}
-use Rattle.otherworld.specs.declared.ow_report.Word.TheVariants.{Number, Escaped}
+use Rattle.otherworld.specs.declared.ow_report.Token.TheVariants.{Number, Escaped}
 use Rattle.otherworld.proofs.Reports.{row_line}
 use Rattle.otherworld.proofs.ow_report.put_row.Goals as goal
 
