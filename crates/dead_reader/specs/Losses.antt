@@ -1,7 +1,7 @@
 -- What a process lost, by its descriptors and its signals.
 use Rattle.std.specs.Prelude.{ℕ, ◌+◌, ◌-◌, ◌/◌, ◌^◌, Bool, true, false, not, ◌==◌, ◌&&◌, if◌then◌else◌, List, slice_index, Option, Some, None, is_some}
 use Rattle.record_layouts.specs.declared.desc.DescRec.{DescRec}
-use Rattle.record_layouts.specs.Choice.{is_any}
+use Rattle.record_layouts.specs.Unix.Choice.{is_any}
 use Rattle.record_layouts.specs.Held.{Records}
 use Rattle.dead_reader.specs.Terminals.{terminal_decodes}
 use Rattle.dead_reader.specs.declared.losses.Loss.{Loss}

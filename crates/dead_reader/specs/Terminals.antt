@@ -1,7 +1,7 @@
 -- Which terminals can be read, and what was to be written on one when the panic came.
 use Rattle.std.specs.Prelude.{◌≡◌, ℕ, ◌+◌, ◌*◌, Bool, not, ◌&&◌, Some, is_some}
 use Rattle.record_layouts.specs.declared.term.TermRec.{TermRec}
-use Rattle.record_layouts.specs.Choice.{is_any}
+use Rattle.record_layouts.specs.Unix.Choice.{is_any}
 use Rattle.record_layouts.specs.Held.{Records}
 use Rattle.record_layouts.specs.Terminals.{TerminalDecodes}
 

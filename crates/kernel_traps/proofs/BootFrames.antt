@@ -14,7 +14,7 @@ use Rattle.ow_base.specs.declared.worlds.Program.{Program}
 use Rattle.record_layouts.specs.Held.{Records}
 use Rattle.record_layouts.specs.Pages.{byte_on, claim_of, entry_for, frame_by, frame_of, have_frames, is_linked, is_mapped, leaf_frame, owned, pages_of, region_of}
 use Rattle.record_layouts.specs.Sound.{is_table_place}
-use Rattle.record_layouts.specs.Unix.{is_within, started_byte, started_pages, started_rights}
+use Rattle.record_layouts.specs.Unix.State.{is_within, started_byte, started_pages, started_rights}
 use Rattle.kernel_traps.specs.Boot.{IsLoadable}
 use Rattle.kernel_traps.specs.BootRecords.{started_record}
 use Rattle.kernel_traps.specs.BootTables.{HasTables, HasWords, low_rights}

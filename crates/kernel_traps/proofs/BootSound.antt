@@ -9,10 +9,10 @@ use Rattle.record_layouts.specs.declared.proc.ProcRec.{ProcRec}
 use Rattle.record_layouts.specs.Held.{AreComplete, AreValues, Records}
 use Rattle.record_layouts.specs.Pages.{is_mapped}
 use Rattle.record_layouts.specs.Sound.{AreSound, IsIn, is_table_place}
-use Rattle.record_layouts.specs.Unix.{start_of}
+use Rattle.record_layouts.specs.Unix.State.{start_of}
 use Rattle.record_layouts.specs.Values.{are_values}
 use Rattle.tty_screen.specs.Shown.{IsBlank, ShowsScreen}
-use Rattle.ow_plant.specs.State.{PlantState, silent_terminal as silent_device, tty_of, Terminal as Device}
+use Rattle.ow_plant.specs.State.{PlantState, silent_device, tty_of, Device}
 use Rattle.intent_store.specs.Live.{map_of, records_held, rest_of}
 use Rattle.intent_store.proofs.Holding.{shut_gate}
 use Rattle.tty_screen.proofs.ShownScreens.{blank_shows}

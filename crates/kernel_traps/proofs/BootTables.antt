@@ -6,7 +6,7 @@ use Rattle.ow_base.specs.Entries.{leaf_word}
 use Rattle.ow_base.specs.World.{page_count, started_page_count}
 use Rattle.ow_base.specs.declared.worlds.Load.{Load}
 use Rattle.ow_base.specs.declared.worlds.Program.{Program}
-use Rattle.record_layouts.specs.Unix.{is_within}
+use Rattle.record_layouts.specs.Unix.State.{is_within}
 use Rattle.record_layouts.specs.Held.{Held, Records}
 use Rattle.record_layouts.specs.Pages.{claim_of}
 use Rattle.kernel_traps.specs.Boot.{IsBootable, program_in}

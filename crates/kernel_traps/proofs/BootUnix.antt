@@ -16,7 +16,7 @@ use Rattle.record_layouts.specs.Decode.{InKernel, decodes, description_by, descr
 use Rattle.record_layouts.specs.Held.{Records}
 use Rattle.record_layouts.specs.Pages.{is_mapped, pages_of}
 use Rattle.record_layouts.specs.Spelling.{lies_between}
-use Rattle.record_layouts.specs.Unix.{AtKernel, OnTty, Process, in_use, is_among, is_named, is_named_by, silent_terminal, start_of, started_as, started_description, started_descriptors, started_pages, started_process}
+use Rattle.record_layouts.specs.Unix.State.{AtKernel, OnTty, Process, in_use, is_among, is_named, is_named_by, silent_terminal, start_of, started_as, started_description, started_descriptors, started_pages, started_process}
 use Rattle.process_table.proofs.Least.{least_found, least_none}
 use Rattle.kernel_traps.specs.Boot.{IsBootable, program_in}
 use Rattle.kernel_traps.specs.BootPages.{pages_before}

@@ -7,7 +7,7 @@ use Rattle.ow_base.specs.Sv32.{WordMap}
 use Rattle.ow_base.specs.World.{page_count, started_page_count}
 use Rattle.ow_base.specs.declared.worlds.Load.{Load}
 use Rattle.ow_base.specs.declared.worlds.Program.{Program}
-use Rattle.record_layouts.specs.Unix.{is_within}
+use Rattle.record_layouts.specs.Unix.State.{is_within}
 use Rattle.record_layouts.specs.Held.{Held}
 use Rattle.kernel_traps.specs.Boot.{IsBootable, program_in}
 use Rattle.kernel_traps.specs.BootPages.{pages_before, with_frame_words, with_start, with_starts}

@@ -7,8 +7,8 @@ use Rattle.ow_base.specs.declared.machine.Rights.{Rights}
 use Rattle.ow_base.specs.declared.machine.Rights.TheVariants.{Code, Values}
 use Rattle.ow_base.specs.declared.machine.Width.{Width}
 use Rattle.record_layouts.specs.Spelling.{IsStatus}
-use Rattle.record_layouts.specs.Turn.{step_of}
-use Rattle.record_layouts.specs.Unix.{Process}
+use Rattle.record_layouts.specs.Unix.Turn.{step_of}
+use Rattle.record_layouts.specs.Unix.State.{Process}
 
 -- the cause of a fault is one of the first sixteen
 abbrev HasCause : Stepped Pages → Type 0

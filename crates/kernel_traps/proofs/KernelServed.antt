@@ -5,15 +5,15 @@ use Rattle.std.proofs.lemmas.Bool.Decides.{nat_tests}
 use Rattle.ow_base.specs.declared.machine.Now.{Now}
 use Rattle.phys_memory.specs.Memory.{words_of}
 use Rattle.record_layouts.specs.declared.proc.ProcRec.{ProcRec}
-use Rattle.record_layouts.specs.Calls.{piece_of}
-use Rattle.record_layouts.specs.Choice.{deliverable, no_keys}
+use Rattle.record_layouts.specs.Unix.Calls.{piece_of}
+use Rattle.record_layouts.specs.Unix.Choice.{deliverable, no_keys}
 use Rattle.record_layouts.specs.Decode.{call_of, process_of}
 use Rattle.record_layouts.specs.Held.{Records}
 use Rattle.record_layouts.specs.Pages.{is_live}
-use Rattle.record_layouts.specs.Signals.{signalled}
+use Rattle.record_layouts.specs.Unix.Signals.{signalled}
 use Rattle.record_layouts.specs.Sound.{IsIn}
-use Rattle.record_layouts.specs.Turn.{idled, turn, turn_at}
-use Rattle.record_layouts.specs.Unix.{AtUser, In, Out, Process, Unix}
+use Rattle.record_layouts.specs.Unix.Turn.{idled, turn, turn_at}
+use Rattle.record_layouts.specs.Unix.State.{AtUser, In, Out, Process, Unix}
 use Rattle.process_table.specs.Choosing.{IsChosen, IsNext, IsRest, IsWork, is_ready, is_ready_one, signal_by, work_of}
 use Rattle.process_table.specs.declared.choice.Choice.{Choice}
 use Rattle.process_table.specs.declared.choice.Choice.TheVariants as choice

@@ -8,7 +8,7 @@ use Rattle.record_layouts.specs.declared.patch.PatchItem.{PatchItem}
 use Rattle.record_layouts.specs.Held.{Held, Records, patched, with_items}
 use Rattle.tty_screen.specs.Drawing.{DrawsByte, IsCounted, StaysBeside}
 use Rattle.tty_screen.specs.Shown.{ShowsScreen, TerminalDecodes}
-use Rattle.ow_plant.specs.State.{PlantState, risen, store_refused, with_put, Terminal as Device}
+use Rattle.ow_plant.specs.State.{PlantState, risen, store_refused, with_put, Device}
 use Rattle.intent_store.specs.Live.{held_of, rest_of}
 use Rattle.kernel_traps.specs.Putting.{AreCounted, AreDrawn, CountsBytes, IsPut, IsPutPartly, counted_after, last_of, puts_on, with_puts}
 

@@ -8,7 +8,7 @@ use Rattle.record_layouts.specs.Decode.{Context, InKernel, InUser, process_at, p
 use Rattle.record_layouts.specs.Held.{Records}
 use Rattle.record_layouts.specs.Pages.{table_frame}
 use Rattle.record_layouts.specs.Sound.{AreSound, IsIn}
-use Rattle.record_layouts.specs.Unix.{AtUser, Process, Unix}
+use Rattle.record_layouts.specs.Unix.State.{AtUser, Process, Unix}
 use Rattle.process_table.specs.Patches.{bank_of}
 use Rattle.process_table.proofs.Seats.{found_in, one_process}
 use Rattle.phys_memory.specs.Memory.{words_of}

@@ -4,10 +4,10 @@ use Rattle.ow_base.specs.Sv32.{WordMap}
 use Rattle.ow_base.specs.declared.machine.Bank.{Bank}
 use Rattle.record_layouts.specs.declared.head.HeadRec.{HeadRec}
 use Rattle.record_layouts.specs.declared.proc.ProcRec.{ProcRec}
-use Rattle.record_layouts.specs.Unix.{AtKernel, Process, Unix, in_use}
-use Rattle.record_layouts.specs.Calls.{trapped}
-use Rattle.record_layouts.specs.Choice.{least_from}
-use Rattle.record_layouts.specs.Turn.{closed, idled}
+use Rattle.record_layouts.specs.Unix.State.{AtKernel, Process, Unix, in_use}
+use Rattle.record_layouts.specs.Unix.Calls.{trapped}
+use Rattle.record_layouts.specs.Unix.Choice.{least_from}
+use Rattle.record_layouts.specs.Unix.Turn.{closed, idled}
 use Rattle.record_layouts.specs.Held.{Records, with_items}
 use Rattle.record_layouts.specs.Pages.{is_mapped}
 use Rattle.record_layouts.specs.Decode.{InKernel, InUser, decodes, description_by, ended_in, ended_of, is_ended_as, is_number, last_by, next_by, pid_in, process_at, process_by, process_in, process_of, processes_of, slot_by, status_by, terminal_by, unix_of}

@@ -7,7 +7,7 @@ use Rattle.std.proofs.lemmas.Grind.{common_steps}
 use Rattle.ow_base.specs.Sv32.{WordMap, byte_of, word_or_zero}
 use Rattle.ow_base.specs.declared.machine.Rights.{Rights}
 use Rattle.record_layouts.specs.declared.proc.ProcRec.{ProcRec}
-use Rattle.record_layouts.specs.Unix.{Process, in_use}
+use Rattle.record_layouts.specs.Unix.State.{Process, in_use}
 use Rattle.record_layouts.specs.Held.{Records, beside}
 use Rattle.record_layouts.specs.Pages.{byte_on, entry_for, frame_by, frame_of, leaf_frame, owned, pages_of, region_of}
 use Rattle.record_layouts.specs.Decode.{Context, InKernel, InUser, description_by, ended_of, process_at, process_by, process_in, process_of, processes_of, slot_by, unix_of}

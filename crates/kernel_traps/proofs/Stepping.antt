@@ -7,9 +7,9 @@ use Rattle.ow_base.specs.Sv32.{WordMap}
 use Rattle.ow_base.specs.Words.{updated}
 use Rattle.ow_base.specs.declared.machine.Bank.{Bank}
 use Rattle.record_layouts.specs.declared.proc.ProcRec.{ProcRec}
-use Rattle.record_layouts.specs.Unix.{Process, AtUser, Unix}
-use Rattle.record_layouts.specs.Calls.{with_process}
-use Rattle.record_layouts.specs.Choice.{least_from}
+use Rattle.record_layouts.specs.Unix.State.{Process, AtUser, Unix}
+use Rattle.record_layouts.specs.Unix.Calls.{with_process}
+use Rattle.record_layouts.specs.Unix.Choice.{least_from}
 use Rattle.record_layouts.specs.Decode.{InUser, description_by, ended_by, ended_in, ended_of, is_ended_as, process_at, process_of, processes_of, slot_by, with_bank}
 use Rattle.record_layouts.specs.Held.{Records}
 use Rattle.record_layouts.specs.Pages.{pages_of}

@@ -8,7 +8,7 @@ use Rattle.record_layouts.specs.Held.{Records}
 use Rattle.tty_screen.specs.Drawing.{IsRowOf}
 use Rattle.tty_screen.specs.Shown.{ShowsScreen}
 use Rattle.tty_screen.proofs.ShownScreens.{shows_same}
-use Rattle.ow_plant.specs.State.{PlantState, tty_of, Terminal as Device}
+use Rattle.ow_plant.specs.State.{PlantState, tty_of, Device}
 use Rattle.kernel_traps.specs.Plants.{IsOfDevice}
 use Rattle.kernel_traps.specs.Putting.{AreCounted, AreDrawn, CountsBytes, puts_on, with_puts}
 use Rattle.kernel_traps.proofs.Puts.{drawn_all-then}

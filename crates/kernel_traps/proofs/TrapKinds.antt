@@ -8,15 +8,15 @@ use Rattle.record_layouts.specs.declared.head.HeadRec.{HeadRec}
 use Rattle.record_layouts.specs.declared.proc.ProcRec.{ProcRec}
 use Rattle.record_layouts.specs.declared.sig.SigRec.{SigRec}
 use Rattle.record_layouts.specs.declared.patch.PatchItem.{PatchItem}
-use Rattle.record_layouts.specs.Calls.{ended_as, entered as call_entered, piece_of, trapped}
+use Rattle.record_layouts.specs.Unix.Calls.{ended_as, call_entered, piece_of, trapped}
 use Rattle.record_layouts.specs.Decode.{InKernel, InUser, process_of, processes_of, slot_by, unix_of}
 use Rattle.record_layouts.specs.Held.{Records, with_items}
 use Rattle.record_layouts.specs.Sound.{IsIn}
 use Rattle.record_layouts.specs.Spelling.{IsStatus}
-use Rattle.record_layouts.specs.Unix.{Unix, Process}
-use Rattle.record_layouts.specs.Choice.{deliverable}
-use Rattle.record_layouts.specs.Turn.{closed, idled}
-use Rattle.record_layouts.specs.Signals.{signalled}
+use Rattle.record_layouts.specs.Unix.State.{Unix, Process}
+use Rattle.record_layouts.specs.Unix.Choice.{deliverable}
+use Rattle.record_layouts.specs.Unix.Turn.{closed, idled}
+use Rattle.record_layouts.specs.Unix.Signals.{signalled}
 use Rattle.process_table.specs.Choosing.{next_signal, signal_by}
 use Rattle.process_table.specs.Patches.{IsSignalling, ended_items, saved_items, signal_items}
 use Rattle.process_table.proofs.Endings.{ended_are}

@@ -11,7 +11,7 @@ use Rattle.record_layouts.specs.declared.term.TermRec.{TermRec}
 use Rattle.record_layouts.specs.declared.patch.PatchItem.{PatchItem}
 use Rattle.record_layouts.specs.Held.{Held, Records, beside, with_items}
 use Rattle.record_layouts.specs.Decode.{InKernel, unix_of}
-use Rattle.record_layouts.specs.Unix.{Unix}
+use Rattle.record_layouts.specs.Unix.State.{Unix}
 use Rattle.syscalls.specs.declared.service.Service.{Service}
 use Rattle.syscalls.specs.declared.service.Service.TheVariants as service
 use Rattle.syscalls.specs.Done.{IsDone}

@@ -6,13 +6,13 @@ use Rattle.ow_base.specs.declared.machine.Bank.{Bank}
 use Rattle.ow_base.specs.declared.machine.Fault.{Fault}
 use Rattle.phys_memory.specs.Memory.{words_of}
 use Rattle.record_layouts.specs.declared.proc.ProcRec.{ProcRec}
-use Rattle.record_layouts.specs.Calls.{ended_as, entered, piece_of, trapped}
-use Rattle.record_layouts.specs.Choice.{Keys, chosen, deliverable, has_live_process, is_any_live, live_or, no_keys, returned_as, returned_to as unix_returned_to, settled, settled_at, settled_on}
+use Rattle.record_layouts.specs.Unix.Calls.{ended_as, call_entered, piece_of, trapped}
+use Rattle.record_layouts.specs.Unix.Choice.{Keys, chosen, deliverable, has_live_process, is_any_live, live_or, no_keys, returned_as, settled_to, settled, settled_at, settled_on}
 use Rattle.record_layouts.specs.Decode.{Context, InKernel, InUser, process_at, processes_of, unix_of, with_bank}
-use Rattle.record_layouts.specs.Signals.{signalled}
+use Rattle.record_layouts.specs.Unix.Signals.{signalled}
 use Rattle.record_layouts.specs.Sound.{IsIn, AreSound}
-use Rattle.record_layouts.specs.Turn.{idled, served_if_live, served_or_idle, signal_or_piece, step_of, stepped, turn, turn_at, user_turn}
-use Rattle.record_layouts.specs.Unix.{AtKernel, AtUser, In, Out, Process, Unix, most_pids}
+use Rattle.record_layouts.specs.Unix.Turn.{idled, served_if_live, served_or_idle, signal_or_piece, step_of, stepped, turn, turn_at, user_turn}
+use Rattle.record_layouts.specs.Unix.State.{AtKernel, AtUser, In, Out, Process, Unix, most_pids}
 use Rattle.process_table.specs.Choosing.{IsChosen, IsNone, IsRest, keys_of}
 use Rattle.process_table.specs.Slots.{has_such, is_live_one}
 use Rattle.process_table.proofs.Chosen.{any_live_is, chosen_is, none_chosen}
@@ -56,7 +56,7 @@ unfolding turn_at user_turn
 slice_turn s p live over = rw (live, over) refl
 
 pub call_turn : (s : PlantState) (p : Process) → IsLiveAs s s.user_pid p → nat_lt s.slice s.shape.quantum ≡ true → step_of p ≡ Call
-    → entered (unix_at s) s.user_pid p ≡ turn_at no_keys s.shape.quantum (unix_at s) (AtUser s.user_pid s.slice)
+    → call_entered (unix_at s) s.user_pid p ≡ turn_at no_keys s.shape.quantum (unix_at s) (AtUser s.user_pid s.slice)
 unfolding turn_at user_turn stepped
 call_turn s p live within calls = rw (live, within, calls) refl
 
@@ -68,7 +68,7 @@ fault_turn s p fault live within faults = rw (live, within, faults) refl
 -- a turn of a process that is chosen in the kernel
 settles : (u : Unix) (pid : ℕ) (p : Process) → u.position ≡ AtKernel → chosen no_keys u ≡ Some pid → u.processes pid ≡ Some p → settled no_keys u ≡ returned_as u pid (deliverable p) p.call
 unfolding settled
-settles u pid p at one live = ap (settled_at no_keys u) at ∙ (ap (settled_on u) one ∙ ap (unix_returned_to u pid) live)
+settles u pid p at one live = ap (settled_at no_keys u) at ∙ (ap (settled_on u) one ∙ ap (settled_to u pid) live)
 
 stays_turn : (quantum : ℕ) (u : Unix) (pid : ℕ) (p : Process) → u.position ≡ AtKernel → chosen no_keys u ≡ Some pid → u.processes pid ≡ Some p → settled no_keys u ≡ u
     → turn_at no_keys quantum (settled no_keys u) (settled no_keys u).position ≡ signal_or_piece u pid p (deliverable p)

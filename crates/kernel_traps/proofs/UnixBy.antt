@@ -1,7 +1,7 @@
 -- The state of the Unix by its processes.
 use Rattle.std.proofs.Common.{◌≡◌, ℕ, List, Option, None, refl}
 use Rattle.ow_base.specs.Sv32.{WordMap}
-use Rattle.record_layouts.specs.Unix.{Unix, Position, Process, in_use}
+use Rattle.record_layouts.specs.Unix.State.{Unix, Position, Process, in_use}
 use Rattle.record_layouts.specs.Held.{Records}
 use Rattle.record_layouts.specs.Decode.{Context, description_by, ended_of, last_by, next_by, position_by, processes_of, status_by, terminal_by, unix_of}
 

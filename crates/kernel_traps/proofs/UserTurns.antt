@@ -10,15 +10,15 @@ use Rattle.phys_memory.specs.Memory.{MemoryParts, words_of}
 use Rattle.sv32_tables.specs.Spaces.{IsMapped, Mapping, satp_of}
 use Rattle.sv32_tables.proofs.Spaces.{IsSpaceOf, steps_follow}
 use Rattle.record_layouts.specs.declared.proc.ProcRec.{ProcRec}
-use Rattle.record_layouts.specs.Choice.{no_keys}
+use Rattle.record_layouts.specs.Unix.Choice.{no_keys}
 use Rattle.record_layouts.specs.Decode.{Context, InUser, process_of, processes_of, unix_of}
 use Rattle.record_layouts.specs.Held.{Records}
 use Rattle.record_layouts.specs.Pages.{pages_of, table_frame}
 use Rattle.record_layouts.specs.Proc.{FitsProc}
 use Rattle.record_layouts.specs.Reading.{records_in, records_of}
 use Rattle.record_layouts.specs.Sound.{AreOnTerminals, AreSound, IsIn}
-use Rattle.record_layouts.specs.Turn.{step_of, stepped, turn_at, user_turn}
-use Rattle.record_layouts.specs.Unix.{AtUser, Process, Unix}
+use Rattle.record_layouts.specs.Unix.Turn.{step_of, stepped, turn_at, user_turn}
+use Rattle.record_layouts.specs.Unix.State.{AtUser, Process, Unix}
 use Rattle.frame_table.specs.Maps.{AreOfMemory, map_of as pages_map}
 use Rattle.frame_table.proofs.Counting.{fits_there}
 use Rattle.frame_table.proofs.Found.{frame_found}

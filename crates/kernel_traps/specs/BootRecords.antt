@@ -5,7 +5,7 @@ use Rattle.ow_base.specs.World.{page_count}
 use Rattle.ow_base.specs.declared.worlds.Load.{Load}
 use Rattle.ow_base.specs.declared.worlds.Program.{Program}
 use Rattle.ow_base.specs.declared.worlds.Start.{Start as Started}
-use Rattle.record_layouts.specs.Unix.{started_bank}
+use Rattle.record_layouts.specs.Unix.State.{started_bank}
 use Rattle.record_layouts.specs.declared.places.RecordId.{RecordId}
 use Rattle.record_layouts.specs.declared.places.RecordId.TheVariants as id
 use Rattle.record_layouts.specs.declared.patch.AnyRec.{AnyRec}

@@ -6,7 +6,7 @@ use Rattle.ow_base.specs.World.{page_count}
 use Rattle.ow_base.specs.declared.machine.Rights.{Rights}
 use Rattle.ow_base.specs.declared.machine.Rights.TheVariants.{Code, Values}
 use Rattle.ow_base.specs.declared.worlds.Program.{Program}
-use Rattle.record_layouts.specs.Unix.{is_within}
+use Rattle.record_layouts.specs.Unix.State.{is_within}
 use Rattle.record_layouts.specs.Held.{Records}
 use Rattle.record_layouts.specs.Pages.{claim_of}
 

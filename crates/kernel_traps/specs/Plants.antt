@@ -10,9 +10,9 @@ use Rattle.record_layouts.specs.Held.{Records}
 use Rattle.record_layouts.specs.Pages.{table_frame}
 use Rattle.record_layouts.specs.Decode.{Context, InKernel, InUser, unix_of}
 use Rattle.record_layouts.specs.Sound.{AreOnTerminals, AreSound, IsIn}
-use Rattle.record_layouts.specs.Unix.{Unix}
+use Rattle.record_layouts.specs.Unix.State.{Unix}
 use Rattle.tty_screen.specs.Shown.{ShowsScreen}
-use Rattle.ow_plant.specs.State.{PlantState, IsArmed, now_of, tty_of, Terminal as Device}
+use Rattle.ow_plant.specs.State.{PlantState, IsArmed, now_of, tty_of, Device}
 use Rattle.intent_store.specs.Live.{records_held, gate_held}
 
 -- the tapes of the two terminals

@@ -5,7 +5,7 @@ use Rattle.record_layouts.specs.declared.term.TermRec.{TermRec}
 use Rattle.record_layouts.specs.Held.{Held, Records}
 use Rattle.tty_screen.specs.Drawing.{StaysBeside}
 use Rattle.tty_screen.specs.Shown.{ShowsScreen, TerminalDecodes}
-use Rattle.ow_plant.specs.State.{PlantState, risen, Terminal as Device}
+use Rattle.ow_plant.specs.State.{PlantState, risen, Device}
 
 -- the last of some bytes, where there is one
 abbrev pub last_of : (last : ℕ) → (bytes : List ℕ) → ℕ

@@ -11,14 +11,14 @@ use Rattle.record_layouts.specs.declared.head.HeadRec.{HeadRec}
 use Rattle.record_layouts.specs.declared.proc.ProcRec.{ProcRec}
 use Rattle.record_layouts.specs.declared.sig.SigRec.{SigRec}
 use Rattle.record_layouts.specs.declared.patch.PatchItem.{PatchItem}
-use Rattle.record_layouts.specs.Calls.{piece_of}
-use Rattle.record_layouts.specs.Choice.{deliverable, no_keys}
+use Rattle.record_layouts.specs.Unix.Calls.{piece_of}
+use Rattle.record_layouts.specs.Unix.Choice.{deliverable, no_keys}
 use Rattle.record_layouts.specs.Decode.{slot_by}
 use Rattle.record_layouts.specs.Held.{Records}
-use Rattle.record_layouts.specs.Signals.{signalled}
+use Rattle.record_layouts.specs.Unix.Signals.{signalled}
 use Rattle.record_layouts.specs.Sound.{IsIn}
-use Rattle.record_layouts.specs.Turn.{step_of, turn_at}
-use Rattle.record_layouts.specs.Unix.{AtUser, Process, Unix}
+use Rattle.record_layouts.specs.Unix.Turn.{step_of, turn_at}
+use Rattle.record_layouts.specs.Unix.State.{AtUser, Process, Unix}
 use Rattle.process_table.specs.Choosing.{IsChoice, signal_by}
 use Rattle.process_table.specs.Patches.{ended_items, head_item, saved_items, signal_items}
 use Rattle.process_table.specs.declared.choice.Choice.{Choice}

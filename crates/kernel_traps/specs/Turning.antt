@@ -1,7 +1,7 @@
 -- What a turn makes of a plant.
 use Rattle.std.specs.Prelude.{◌≡◌, ◌+◌, true, false}
-use Rattle.record_layouts.specs.Choice.{has_live_process}
-use Rattle.record_layouts.specs.Turn.{turn}
+use Rattle.record_layouts.specs.Unix.Choice.{has_live_process}
+use Rattle.record_layouts.specs.Unix.Turn.{turn}
 use Rattle.ow_plant.specs.State.{PlantState}
 use Rattle.kernel_traps.specs.Plants.{IsSound, unix_at}
 use Rattle.kernel_traps.specs.declared.turns.Turn.{Turn}

@@ -2,12 +2,12 @@
 use Rattle.std.specs.Prelude.{◌≡◌, ℕ, ◌+◌, true, false, nat_lt, Some}
 use Rattle.ow_base.specs.UserStep.{Call, Faulted}
 use Rattle.record_layouts.specs.declared.proc.ProcRec.{ProcRec}
-use Rattle.record_layouts.specs.Choice.{no_keys}
+use Rattle.record_layouts.specs.Unix.Choice.{no_keys}
 use Rattle.record_layouts.specs.Pages.{table_frame}
 use Rattle.record_layouts.specs.Sound.{IsIn}
 use Rattle.record_layouts.specs.Spelling.{IsStatus}
-use Rattle.record_layouts.specs.Turn.{step_of, turn_at}
-use Rattle.record_layouts.specs.Unix.{Unix, Process, AtUser}
+use Rattle.record_layouts.specs.Unix.Turn.{step_of, turn_at}
+use Rattle.record_layouts.specs.Unix.State.{Unix, Process, AtUser}
 use Rattle.process_table.specs.Patches.{bank_of}
 use Rattle.ow_plant.specs.State.{PlantState, returned_to}
 use Rattle.ow_plant.specs.declared.UserEnd.{UserEnd}

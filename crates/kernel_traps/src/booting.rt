@@ -4,7 +4,7 @@ ghost use Rattle.ow_base.specs.declared.worlds.Program.{Program};
 ghost use Rattle.phys_memory.specs.Memory.{words_of};
 ghost use Rattle.record_layouts.specs.Held.{beside};
 ghost use Rattle.record_layouts.specs.Overlay.{area_at};
-ghost use Rattle.record_layouts.specs.Unix.{start_of};
+ghost use Rattle.record_layouts.specs.Unix.State.{start_of};
 ghost use Rattle.ow_plant.specs.State.{IsReady};
 ghost use Rattle.intent_store.specs.Live.{records_held, rest_of};
 ghost use Rattle.kernel_traps.specs.Plants.{IsSound, unix_at};

@@ -1,6 +1,6 @@
 //! The turns of a kernel that runs, and its end.
 ghost use Rattle.std.specs.Prelude.{◌≡◌, ◌-◌, ◌^◌, ◌<◌, ◌⊎◌, true, false, IfOk, OnOk, OnErr};
-ghost use Rattle.record_layouts.specs.Turn.{closed};
+ghost use Rattle.record_layouts.specs.Unix.Turn.{closed};
 ghost use Rattle.kernel_traps.specs.Plants.{IsSound, unix_at};
 ghost use Rattle.kernel_traps.specs.Traps.{HasPassed, IsAllEnded, IsNoPanicNext, IsPanicNext, IsTrapMade, IsTurnInUser, MayBeLeftOfClosing, MayBeLeftOfKernelTurn, MayBeLeftOfTurn, MayBeLeftOfUserTurn};
 ghost use Rattle.kernel_traps.specs.Turning.{AllHaveEnded, IsTurn};

@@ -2,8 +2,8 @@
 ghost use Rattle.std.specs.Prelude.{◌≡◌, ◌+◌, ◌-◌, ◌^◌, ◌<◌, ◌≤◌, true, false, Some, is_some, IfSome, OnOk, OnErr};
 ghost use Rattle.phys_memory.specs.Memory.{words_of};
 ghost use Rattle.ow_base.specs.declared.machine.Came.TheVariants as came;
-ghost use Rattle.record_layouts.specs.Calls.{ended_as, entered, trapped};
-ghost use Rattle.record_layouts.specs.Turn.{closed, idled};
+ghost use Rattle.record_layouts.specs.Unix.Calls.{ended_as, call_entered, trapped};
+ghost use Rattle.record_layouts.specs.Unix.Turn.{closed, idled};
 ghost use Rattle.record_layouts.specs.Decode.{slot_by};
 ghost use Rattle.record_layouts.specs.Patch.{IsPatch};
 ghost use Rattle.record_layouts.specs.Spelling.{IsStatus};
@@ -186,7 +186,7 @@ pub(crate) fn call_trap(plant: &mut Plant) -> Result<(), Panicked>
     requires in_user { plant.old.in_user ≡ true }
     requires budget { plant.old.steps < plant.old.shape.budget }
     requires traps { plant.old.traps < 2 ^ 32 - 2 }
-    ensures ok { OnOk result (IsTrapOf plant.old plant.new plant.old.user_pid (entered (unix_at plant.old) plant.old.user_pid)) }
+    ensures ok { OnOk result (IsTrapOf plant.old plant.new plant.old.user_pid (call_entered (unix_at plant.old) plant.old.user_pid)) }
     ensures err { OnErr result (MayBeLeftOfCall plant.old plant.new) }
     ensures passed { OnOk result (IsNoPanicNext plant.old) }
     ensures allowed { OnErr result (IsPanicNext plant.old) }

@@ -9,12 +9,12 @@ use Rattle.std.proofs.lemmas.Bool.{cases_lt, and_parts, and_cases, eqb-true}
 use Rattle.std.proofs.lemmas.Bool.Decides.{nat_tests}
 use Rattle.ow_base.specs.Lines.{line, spaced, escaped}
 use Rattle.record_layouts.specs.declared.places.RecordId.TheVariants as id
-use Rattle.record_layouts.specs.Report.{status_words, process_line, out_lines, trimmed, kept_before, row_lines, row_line_of, process_lines, head_text, terminal_text, shown_on, report_of}
+use Rattle.record_layouts.specs.Unix.Report.{status_words, process_line, out_lines, trimmed, kept_before, row_lines, row_line_of, process_lines, head_text, terminal_text, shown_on, report_of}
 use Rattle.record_layouts.specs.Held.{Records}
 use Rattle.record_layouts.specs.Decode.{terminal_by, unix_of}
 use Rattle.record_layouts.specs.declared.term.TermRec.{TermRec}
 use Rattle.ow_base.specs.declared.worlds.Ending.{Ending}
-use Rattle.ow_plant.specs.State.{PlantState, Terminal as Device}
+use Rattle.ow_plant.specs.State.{PlantState, Device}
 use Rattle.intent_store.specs.Live.{records_held}
 use Rattle.kernel_traps.specs.Plants.{unix_at, IsSound, IsOfDevice}
 use Rattle.otherworld.specs.declared.ow_report.Token.{Token}

@@ -7,9 +7,9 @@ use Rattle.world_file.specs.declared.reader.WorldFault.{WorldFault}
 use Rattle.world_file.specs.declared.reader.WorldFault.TheVariants.{Bad}
 use Rattle.world_file.specs.declared.reader.WorldFault.TheVariants as fault
 use Rattle.world_file.specs.WorldRefusals.{IsRefused, IsRefusedFault, Long}
-use Rattle.record_layouts.specs.Unix.{start_of}
-use Rattle.record_layouts.specs.Run.{Run, RunsFrom}
-use Rattle.record_layouts.specs.Report.{report_of}
+use Rattle.record_layouts.specs.Unix.State.{start_of}
+use Rattle.record_layouts.specs.Unix.Run.{Run, RunsFrom}
+use Rattle.record_layouts.specs.Unix.Report.{report_of}
 use Rattle.ow_base.specs.declared.worlds.World.{World}
 use Rattle.ow_base.specs.declared.worlds.Ending.{Ending}
 use Rattle.ow_base.specs.declared.worlds.PanicRecord.{PanicRecord}

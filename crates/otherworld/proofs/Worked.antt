@@ -6,13 +6,13 @@ use Rattle.std.specs.Fmt.{digits}
 use Rattle.ow_base.specs.Lines.{hex8, escaped_byte}
 use Rattle.ow_base.specs.UserStep.{immediate_act, register_act, branch_act, load_act, store_act, system_act, act_of, gone_to, after_load, after_store, acted, after_fetch, user_step}
 use Rattle.ow_base.specs.Pages.{page_space, is_readable, bytes_at}
-use Rattle.record_layouts.specs.Unix.{Unix, started_rights, started_byte, started_pages, started_process, started_as, started_description, start_of}
-use Rattle.record_layouts.specs.Choice.{least_from, deliverable, goes_on as call_goes_on, chosen, is_any_live, settled}
-use Rattle.record_layouts.specs.Calls.{trapped, answered, stays_in, ended_as, description_of, tty_write, write_entry, exit_entry, called, entered, continued, piece_of}
-use Rattle.record_layouts.specs.Turn.{step_of, stepped, user_turn, idled, turn_at, turn, ending_of, closed}
-use Rattle.record_layouts.specs.Run.{Run, RunsFrom, ends, goes_on}
+use Rattle.record_layouts.specs.Unix.State.{Unix, started_rights, started_byte, started_pages, started_process, started_as, started_description, start_of}
+use Rattle.record_layouts.specs.Unix.Choice.{least_from, deliverable, goes_on as call_goes_on, chosen, is_any_live, settled}
+use Rattle.record_layouts.specs.Unix.Calls.{trapped, answered, stays_in, ended_as, description_of, tty_write, write_entry, exit_entry, called, call_entered, continued, piece_of}
+use Rattle.record_layouts.specs.Unix.Turn.{step_of, stepped, user_turn, idled, turn_at, turn, ending_of, closed}
+use Rattle.record_layouts.specs.Unix.Run.{Run, RunsFrom, ends, goes_on}
 use Rattle.ow_base.specs.Screen.{blank_screen, on_next_line, printed, drawn, screen_of}
-use Rattle.record_layouts.specs.Report.{head_text, status_words, process_lines, out_lines, trimmed, row_lines, screen_text, terminal_text, report_of}
+use Rattle.record_layouts.specs.Unix.Report.{head_text, status_words, process_lines, out_lines, trimmed, row_lines, screen_text, terminal_text, report_of}
 use Rattle.ow_base.specs.Outside.{appended}
 use Rattle.ow_base.specs.World.{IsWorld}
 use Rattle.ow_base.specs.declared.machine.Shape.{Shape}
@@ -34,7 +34,7 @@ use Rattle.otherworld.specs.Rows.{worked_world, exit_seven, exit_seven_text, exi
 
 -- `unfolding rows` lets `refl` compute the reading of a text, a run and a report
 unfoldable pub rows : Unit {0}
-unfolding digits hex8 escaped_byte immediate_act register_act branch_act load_act store_act system_act act_of gone_to after_load after_store acted after_fetch user_step page_space is_readable bytes_at started_rights started_byte started_pages started_process started_as started_description start_of least_from deliverable call_goes_on chosen is_any_live settled trapped answered stays_in ended_as description_of tty_write write_entry exit_entry called entered continued piece_of step_of stepped user_turn idled turn_at turn ending_of closed blank_screen on_next_line printed drawn screen_of head_text status_words process_lines out_lines trimmed row_lines screen_text terminal_text report_of pieces words key_of number_of word_of is_name words_of first_reason with_line read_lines read_text worked_world exit_seven exit_seven_text exit_seven_report hi_on hi hi_text hi_report three_hi three_hi_text three_hi_report few_frames_text no_end_text turned after
+unfolding digits hex8 escaped_byte immediate_act register_act branch_act load_act store_act system_act act_of gone_to after_load after_store acted after_fetch user_step page_space is_readable bytes_at started_rights started_byte started_pages started_process started_as started_description start_of least_from deliverable call_goes_on chosen is_any_live settled trapped answered stays_in ended_as description_of tty_write write_entry exit_entry called call_entered continued piece_of step_of stepped user_turn idled turn_at turn ending_of closed blank_screen on_next_line printed drawn screen_of head_text status_words process_lines out_lines trimmed row_lines screen_text terminal_text report_of pieces words key_of number_of word_of is_name words_of first_reason with_line read_lines read_text worked_world exit_seven exit_seven_text exit_seven_report hi_on hi hi_text hi_report three_hi three_hi_text three_hi_report few_frames_text no_end_text turned after
 rows = tt
 
 -- the texts of the worlds

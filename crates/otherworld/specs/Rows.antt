@@ -1,7 +1,7 @@
 -- Three worked worlds, with their texts and reports, and two texts that are refused.
 use Rattle.std.specs.Prelude.{ℕ, zero, suc, List, [], ◌∷◌, map, codes}
-use Rattle.record_layouts.specs.Unix.{Unix, start_of}
-use Rattle.record_layouts.specs.Turn.{turn}
+use Rattle.record_layouts.specs.Unix.State.{Unix, start_of}
+use Rattle.record_layouts.specs.Unix.Turn.{turn}
 use Rattle.ow_base.specs.declared.machine.Shape.{Shape}
 use Rattle.ow_base.specs.declared.worlds.World.{World}
 

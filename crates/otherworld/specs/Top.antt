@@ -3,9 +3,9 @@ use Rattle.std.specs.Prelude.{◌≡◌, ℕ, ◌+◌, ◌≤◌, Bool, true, fa
 use Rattle.ow_base.specs.Lines.{line}
 use Rattle.ow_base.specs.Outside.{appended, IsFront, OnTold, Rose}
 use Rattle.ow_base.specs.World.{IsWorld}
-use Rattle.record_layouts.specs.Unix.{Unix}
-use Rattle.record_layouts.specs.Run.{Run}
-use Rattle.record_layouts.specs.Report.{report_of, shown_on}
+use Rattle.record_layouts.specs.Unix.State.{Unix}
+use Rattle.record_layouts.specs.Unix.Run.{Run}
+use Rattle.record_layouts.specs.Unix.Report.{report_of, shown_on}
 use Rattle.ow_base.specs.declared.worlds.World.{World}
 use Rattle.ow_base.specs.declared.worlds.Ending.{Ending}
 use Rattle.ow_base.specs.declared.worlds.Ending.TheVariants as ending

@@ -1,8 +1,8 @@
 //! What holds of runs as a whole, and of what is answered to a text.
 
 ghost use Rattle.std.specs.Prelude.{◌≡◌, ℕ, List, ◌⊎◌};
-ghost use Rattle.record_layouts.specs.Run.{Run};
-ghost use Rattle.record_layouts.specs.Unix.{Unix};
+ghost use Rattle.record_layouts.specs.Unix.Run.{Run};
+ghost use Rattle.record_layouts.specs.Unix.State.{Unix};
 ghost use Rattle.ow_base.specs.World.{IsWorld};
 ghost use Rattle.ow_base.specs.declared.worlds.World.{World};
 ghost use Rattle.ow_base.specs.declared.worlds.Ending.{Ending};

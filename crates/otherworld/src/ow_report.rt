@@ -3,7 +3,7 @@
 ghost use Rattle.std.specs.Prelude.{◌≡◌, ℕ, ◌+◌, ◌-◌, ◌^◌, ◌<◌, ◌≤◌, List, [], ◌∷◌, length, codes, decimal, flat_map, OnErr, Option, Some};
 ghost use Rattle.ow_base.specs.Lines.{line, spaced, number_line, escaped};
 ghost use Rattle.ow_base.specs.Outside.{Rose, Writes};
-ghost use Rattle.record_layouts.specs.Report.{head_text, ending_word, status_words, process_line, process_lines, out_lines, tape_text, row_lines, trimmed, row_line_of, screen_text, terminal_text, report_of};
+ghost use Rattle.record_layouts.specs.Unix.Report.{head_text, ending_word, status_words, process_line, process_lines, out_lines, tape_text, row_lines, trimmed, row_line_of, screen_text, terminal_text, report_of};
 ghost use Rattle.kernel_traps.specs.Plants.{unix_at, IsSound};
 ghost use Rattle.otherworld.specs.Writing.{token_text, next_token, line_text, exit_key, exit_number, status_word, IsExit, tape_line_count};
 

@@ -4,9 +4,9 @@
 ghost use Rattle.std.specs.Prelude.{◌≡◌, ℕ, true, List, [], ◌∷◌, codes, Option, Some, None, ◌⊎◌};
 ghost use Rattle.ow_base.specs.Outside.{appended, Rose};
 ghost use Rattle.ow_base.specs.World.{IsWorld};
-ghost use Rattle.record_layouts.specs.Run.{Run};
-ghost use Rattle.record_layouts.specs.Turn.{ending_of, closed};
-ghost use Rattle.record_layouts.specs.Report.{report_of};
+ghost use Rattle.record_layouts.specs.Unix.Run.{Run};
+ghost use Rattle.record_layouts.specs.Unix.Turn.{ending_of, closed};
+ghost use Rattle.record_layouts.specs.Unix.Report.{report_of};
 ghost use Rattle.ow_base.specs.declared.worlds.World.{World};
 ghost use Rattle.ow_base.specs.declared.worlds.Ending.TheVariants as ending;
 ghost use Rattle.ow_plant.specs.State.{PlantState};

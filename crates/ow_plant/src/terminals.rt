@@ -1,6 +1,6 @@
 //! A terminal: a tape of the bytes written, and a display.
 ghost use Rattle.std.specs.Prelude.{◌≡◌, ℕ, ◌<◌, length, IfOk};
-ghost use Rattle.ow_plant.specs.State.{silent_terminal, put_on};
+ghost use Rattle.ow_plant.specs.State.{silent_device, put_on};
 
 use crate::displays::Display;
 use std::alloc::{AllocError, Global};
@@ -26,7 +26,7 @@ impl Model for Tty {
 impl Tty {
     /// A terminal with no room.
     pub(crate) fn new(alloc: Global) -> Tty
-        ensures { result ≡ silent_terminal 0 }
+        ensures { result ≡ silent_device 0 }
     {
         Tty {
             bytes: Vec::new(alloc),
@@ -36,7 +36,7 @@ impl Tty {
 
     /// A terminal with room for so many bytes.
     pub(crate) fn with_room(alloc: Global, room: usize) -> Result<Tty, AllocError>
-        ensures { IfOk result (λ t. t ≡ silent_terminal room) }
+        ensures { IfOk result (λ t. t ≡ silent_device room) }
     {
         let bytes = Vec::with_capacity(alloc, room)?;
         Ok(Tty {

@@ -1,7 +1,7 @@
 //! Tests of the plant: displays, page tables that lead anywhere, and points at which it refuses.
 
 ghost use Rattle.std.specs.Prelude.{◌≡◌, ◌≤◌, ◌<◌, true, [], IfOk};
-ghost use Rattle.ow_plant.specs.State.{silent_terminal};
+ghost use Rattle.ow_plant.specs.State.{silent_device};
 
 use crate::UserEnd;
 use crate::displays::Display;
@@ -168,7 +168,7 @@ fn with_points(alloc: Global, trap: u32, store: u32) -> Result<Plant, AllocError
     requires first { 1 ≤ trap }
     requires last { trap < 100 }
     ensures armed { IfOk result (λ plant. plant.armed ≡ true) }
-    ensures silent { IfOk result (λ plant. plant.tty1 ≡ silent_terminal 160) }
+    ensures silent { IfOk result (λ plant. plant.tty1 ≡ silent_device 160) }
 {
     let mut plant = Plant::new(alloc);
     let points = [point(trap, store), point(trap + 1, 0)];

@@ -6,8 +6,8 @@ use Rattle.ow_base.specs.Sv32.{WordMap}
 use Rattle.ow_base.specs.declared.machine.Now.{Now}
 use Rattle.record_layouts.specs.declared.head.HeadRec.{HeadRec}
 use Rattle.record_layouts.specs.declared.proc.ProcRec.{ProcRec}
-use Rattle.record_layouts.specs.Unix.{most_pids, Process}
-use Rattle.record_layouts.specs.Choice.{least_from, or_else, deliverable, can_run, is_runnable, chosen, live_or, has_live_process, is_any_live}
+use Rattle.record_layouts.specs.Unix.State.{most_pids, Process}
+use Rattle.record_layouts.specs.Unix.Choice.{least_from, or_else, deliverable, can_run, is_runnable, chosen, live_or, has_live_process, is_any_live}
 use Rattle.record_layouts.specs.Held.{Records}
 use Rattle.record_layouts.specs.Pages.{is_live}
 use Rattle.record_layouts.specs.Decode.{InKernel, call_of, process_of, process_at, processes_of, last_by, unix_of}

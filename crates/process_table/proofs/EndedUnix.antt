@@ -7,9 +7,9 @@ use Rattle.ow_base.specs.Words.{updated}
 use Rattle.record_layouts.specs.declared.head.HeadRec.{HeadRec}
 use Rattle.record_layouts.specs.declared.proc.ProcRec.{ProcRec}
 use Rattle.record_layouts.specs.declared.exit.ExitRec.{ExitRec}
-use Rattle.record_layouts.specs.Unix.{Process, Description, in_use, is_named, is_named_by, AtKernel}
-use Rattle.record_layouts.specs.Calls.{trapped, ended_as, child_of, unless_child_of}
-use Rattle.record_layouts.specs.Choice.{least_from}
+use Rattle.record_layouts.specs.Unix.State.{Process, Description, in_use, is_named, is_named_by, AtKernel}
+use Rattle.record_layouts.specs.Unix.Calls.{trapped, ended_as, child_of, unless_child_of}
+use Rattle.record_layouts.specs.Unix.Choice.{least_from}
 use Rattle.record_layouts.specs.Held.{Records}
 use Rattle.record_layouts.specs.Pages.{is_live, pages_of, frame_of, entry_for}
 use Rattle.record_layouts.specs.Spelling.{IsStatus}

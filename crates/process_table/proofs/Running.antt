@@ -10,9 +10,9 @@ use Rattle.record_layouts.specs.declared.proc.ProcRec.{ProcRec}
 use Rattle.record_layouts.specs.declared.sig.SigRec.{SigRec}
 use Rattle.record_layouts.specs.declared.desc.DescRec.{DescRec}
 use Rattle.record_layouts.specs.declared.term.TermRec.{TermRec}
-use Rattle.record_layouts.specs.Unix.{Process, in_use, is_named, is_named_by, is_among, is_this}
-use Rattle.record_layouts.specs.Calls.{description_of}
-use Rattle.record_layouts.specs.Choice.{least_from, is_any, deliverable, is_child_of, is_ended_child_of, has_ended_child, has_child, read_goes_on, goes_on}
+use Rattle.record_layouts.specs.Unix.State.{Process, in_use, is_named, is_named_by, is_among, is_this}
+use Rattle.record_layouts.specs.Unix.Calls.{description_of}
+use Rattle.record_layouts.specs.Unix.Choice.{least_from, is_any, deliverable, is_child_of, is_ended_child_of, has_ended_child, has_child, read_goes_on, goes_on}
 use Rattle.record_layouts.specs.Held.{Records}
 use Rattle.record_layouts.specs.Pages.{is_live}
 use Rattle.record_layouts.specs.Desc.{FitsDesc}

@@ -7,8 +7,8 @@ use Rattle.ow_base.specs.declared.machine.Bank.{Bank}
 use Rattle.record_layouts.specs.declared.places.RecordId.TheVariants as id
 use Rattle.record_layouts.specs.declared.head.HeadRec.{HeadRec}
 use Rattle.record_layouts.specs.declared.proc.ProcRec.{ProcRec}
-use Rattle.record_layouts.specs.Unix.{Process}
-use Rattle.record_layouts.specs.Calls.{trapped}
+use Rattle.record_layouts.specs.Unix.State.{Process}
+use Rattle.record_layouts.specs.Unix.Calls.{trapped}
 use Rattle.record_layouts.specs.Held.{Records, with_items}
 use Rattle.record_layouts.specs.Pages.{is_live, region_of, pages_of, frame_of, entry_for}
 use Rattle.record_layouts.specs.Proc.{FitsProc, FitsLive}

@@ -12,9 +12,9 @@ use Rattle.record_layouts.specs.declared.places.RecordId.TheVariants as id
 use Rattle.record_layouts.specs.declared.head.HeadRec.{HeadRec}
 use Rattle.record_layouts.specs.declared.proc.ProcRec.{ProcRec}
 use Rattle.record_layouts.specs.declared.sig.SigRec.{SigRec}
-use Rattle.record_layouts.specs.Unix.{Unix, Process, CallState, Out, In}
-use Rattle.record_layouts.specs.Calls.{trapped, with_process}
-use Rattle.record_layouts.specs.Signals.{signalled, signalled_by, without_signal as unix_without, entered_in_handler, interrupted_in}
+use Rattle.record_layouts.specs.Unix.State.{Unix, Process, CallState, Out, In}
+use Rattle.record_layouts.specs.Unix.Calls.{trapped, with_process}
+use Rattle.record_layouts.specs.Unix.Signals.{signalled, signalled_by, without_signal as unix_without, entered_in_handler, interrupted_in}
 use Rattle.record_layouts.specs.Held.{Records, with_items}
 use Rattle.record_layouts.specs.Pages.{is_live, pages_of}
 use Rattle.record_layouts.specs.Proc.{FitsProc, FitsLive}

@@ -7,7 +7,7 @@ use Rattle.record_layouts.specs.declared.proc.ProcRec.{ProcRec}
 use Rattle.record_layouts.specs.declared.sig.SigRec.{SigRec}
 use Rattle.record_layouts.specs.declared.desc.DescRec.{DescRec}
 use Rattle.record_layouts.specs.declared.term.TermRec.{TermRec}
-use Rattle.record_layouts.specs.Choice.{Keys, least_from}
+use Rattle.record_layouts.specs.Unix.Choice.{Keys, least_from}
 use Rattle.record_layouts.specs.Decode.{is_pending}
 use Rattle.record_layouts.specs.Held.{Records}
 use Rattle.record_layouts.specs.Pages.{is_live}

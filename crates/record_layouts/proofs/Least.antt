@@ -1,7 +1,7 @@
 -- The least number that passes a test, and whether there is one.
 use Rattle.std.proofs.Common.{◌≡◌, ℕ, zero, suc, ◌+◌, ◌<◌, ◌≤◌, Bool, true, false, Option, Some, None, IfSome, IfNone, inl, inr, refl, sym, ap, arith}
 use Rattle.std.proofs.lemmas.Bool.{cases_Bool}
-use Rattle.record_layouts.specs.Choice.{least_from, is_any}
+use Rattle.record_layouts.specs.Unix.Choice.{least_from, is_any}
 use Rattle.record_layouts.specs.Least.{IsLeast, NonePasses}
 
 behind : (test : ℕ → Bool) (first end : ℕ) → NonePasses test first end → NonePasses test (first + 1) end

@@ -10,8 +10,8 @@ use Rattle.record_layouts.specs.declared.sig.SigRec.{SigRec}
 use Rattle.record_layouts.specs.declared.desc.DescRec.{DescRec}
 use Rattle.record_layouts.specs.declared.term.TermRec.{TermRec}
 use Rattle.record_layouts.specs.declared.exit.ExitRec.{ExitRec}
-use Rattle.record_layouts.specs.Unix.{most_pids, Unix, Process, CallState, Out, In, EndedChild, Description, Object, OnFile, OnTty, Terminal, Position, AtKernel, AtUser, in_use}
-use Rattle.record_layouts.specs.Choice.{least_from}
+use Rattle.record_layouts.specs.Unix.State.{most_pids, Unix, Process, CallState, Out, In, EndedChild, Description, Object, OnFile, OnTty, Terminal, Position, AtKernel, AtUser, in_use}
+use Rattle.record_layouts.specs.Unix.Choice.{least_from}
 use Rattle.record_layouts.specs.Held.{Records}
 use Rattle.record_layouts.specs.Pages.{is_live, is_mapped, pages_of}
 

@@ -1,13 +1,7 @@
 -- The state of the Unix that never panics, what its turns make of it, which words are a record of which value, and
 -- which records the words of an area hold.
 pub mod Unix
-pub mod Calls
-pub mod Choice
 pub mod Least
-pub mod Signals
-pub mod Turn
-pub mod Run
-pub mod Report
 pub mod Spelling
 pub mod Packing
 pub mod Head

@@ -7,7 +7,7 @@ use Rattle.ow_base.specs.Pages.{Pages}
 use Rattle.ow_base.specs.declared.machine.Rights.{Rights}
 use Rattle.ow_base.specs.declared.machine.Rights.TheVariants.{Code, Values}
 use Rattle.record_layouts.specs.declared.proc.ProcRec.{ProcRec}
-use Rattle.record_layouts.specs.Unix.{is_within}
+use Rattle.record_layouts.specs.Unix.State.{is_within}
 use Rattle.record_layouts.specs.Held.{Records}
 
 -- the process goes on: it is outside a call or in one

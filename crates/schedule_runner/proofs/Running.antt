@@ -6,11 +6,11 @@ use Rattle.ow_base.specs.declared.machine.Shape.{Shape}
 use Rattle.ow_base.specs.declared.worlds.Ending.{Ending}
 use Rattle.ow_base.specs.declared.worlds.Load.{Load}
 use Rattle.ow_base.specs.declared.worlds.Ending.TheVariants.{Done, Budget}
-use Rattle.record_layouts.specs.Choice.{has_live_process}
+use Rattle.record_layouts.specs.Unix.Choice.{has_live_process}
 use Rattle.record_layouts.specs.Decode.{unix_of}
-use Rattle.record_layouts.specs.Run.{RunsFrom, ends, goes_on}
-use Rattle.record_layouts.specs.Turn.{closed, ending_of, turn}
-use Rattle.record_layouts.specs.Unix.{Unix, start_of}
+use Rattle.record_layouts.specs.Unix.Run.{RunsFrom, ends, goes_on}
+use Rattle.record_layouts.specs.Unix.Turn.{closed, ending_of, turn}
+use Rattle.record_layouts.specs.Unix.State.{Unix, start_of}
 use Rattle.ow_plant.specs.State.{PlantState}
 use Rattle.kernel_traps.specs.Plants.{IsSound, unix_at}
 use Rattle.kernel_traps.specs.Turning.{AllHaveEnded, IsSameMachine, IsSomeLive, IsTurned}

@@ -1,8 +1,8 @@
 //! The run of a world: turn after turn, until no process is live or the steps come to the budget.
 ghost use Rattle.std.specs.Prelude.{◌≡◌, ◌^◌, ◌<◌, ◌-◌, []};
-ghost use Rattle.record_layouts.specs.Run.{RunsFrom};
-ghost use Rattle.record_layouts.specs.Turn.{closed};
-ghost use Rattle.record_layouts.specs.Unix.{start_of};
+ghost use Rattle.record_layouts.specs.Unix.Run.{RunsFrom};
+ghost use Rattle.record_layouts.specs.Unix.Turn.{closed};
+ghost use Rattle.record_layouts.specs.Unix.State.{start_of};
 ghost use Rattle.ow_plant.specs.State.{IsReady};
 ghost use Rattle.kernel_traps.specs.Boot.{IsBootable};
 ghost use Rattle.kernel_traps.specs.Plants.{IsSound, unix_at};

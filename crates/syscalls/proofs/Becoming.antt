@@ -11,9 +11,9 @@ use Rattle.record_layouts.specs.declared.head.HeadRec.{HeadRec}
 use Rattle.record_layouts.specs.declared.proc.ProcRec.{ProcRec}
 use Rattle.record_layouts.specs.declared.term.TermRec.{TermRec}
 use Rattle.record_layouts.specs.declared.row.RowRec.{RowRec}
-use Rattle.record_layouts.specs.Unix.{Unix, AtKernel, Process, EndedChild, Description, in_use, is_named, is_named_by}
-use Rattle.record_layouts.specs.Calls.{trapped, with_process}
-use Rattle.record_layouts.specs.Choice.{least_from}
+use Rattle.record_layouts.specs.Unix.State.{Unix, AtKernel, Process, EndedChild, Description, in_use, is_named, is_named_by}
+use Rattle.record_layouts.specs.Unix.Calls.{trapped, with_process}
+use Rattle.record_layouts.specs.Unix.Choice.{least_from}
 use Rattle.record_layouts.specs.Held.{Records, with_items}
 use Rattle.record_layouts.specs.Pages.{is_live, is_mapped}
 use Rattle.record_layouts.specs.Decode.{Context, InKernel, InUser, slot_by, is_number, pid_in, decodes, description_by, ended_by, ended_in, ended_of, is_ended_as, status_by, next_by, last_by, process_at, process_of, processes_of, terminal_by, unix_of, with_bank}

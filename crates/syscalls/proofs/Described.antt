@@ -4,8 +4,8 @@ use Rattle.std.specs.Prelude.{option_and_then}
 use Rattle.std.proofs.lemmas.Bool.{cases_Bool}
 use Rattle.std.proofs.lemmas.Bool.Decides.{nat_tests}
 use Rattle.record_layouts.specs.declared.desc.DescRec.{DescRec}
-use Rattle.record_layouts.specs.Unix.{Process, Description, in_use, is_among, is_named, is_named_by, is_this}
-use Rattle.record_layouts.specs.Calls.{flat}
+use Rattle.record_layouts.specs.Unix.State.{Process, Description, in_use, is_among, is_named, is_named_by, is_this}
+use Rattle.record_layouts.specs.Unix.Calls.{flat}
 use Rattle.record_layouts.specs.Held.{Records}
 use Rattle.record_layouts.specs.Decode.{description_by, descriptor_of, object_of}
 use Rattle.syscalls.specs.Planned.{if_open, is_written, named, named_by}

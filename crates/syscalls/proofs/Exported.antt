@@ -4,8 +4,8 @@ use Rattle.ow_base.specs.Sv32.{WordMap}
 use Rattle.ow_base.specs.declared.machine.Bank.{Bank}
 use Rattle.record_layouts.specs.declared.head.HeadRec.{HeadRec}
 use Rattle.record_layouts.specs.declared.proc.ProcRec.{ProcRec}
-use Rattle.record_layouts.specs.Unix.{Unix, Process}
-use Rattle.record_layouts.specs.Calls.{entered, piece_of}
+use Rattle.record_layouts.specs.Unix.State.{Unix, Process}
+use Rattle.record_layouts.specs.Unix.Calls.{call_entered, piece_of}
 use Rattle.record_layouts.specs.Held.{Records}
 use Rattle.record_layouts.specs.Pages.{is_mapped}
 use Rattle.record_layouts.specs.Decode.{Context, InKernel, InUser, process_of, processes_of, unix_of}
@@ -30,11 +30,11 @@ pub entered_then : (r : Records) (words : WordMap) (tapes : ℕ → List ℕ) (s
     → AreSound r → r.head ≡ Some head → IsIn r slot process
     → (unix_of r words tapes (InUser process.pid count bank) steps traps).processes process.pid ≡ Some p
     → IsDone r words tapes slot process (planned_call r words slot trap head process bank) done done_tapes
-    → unix_of done words done_tapes InKernel (steps + 1) (traps + 1) ≡ entered (unix_of r words tapes (InUser process.pid count bank) steps traps) process.pid p
+    → unix_of done words done_tapes InKernel (steps + 1) (traps + 1) ≡ call_entered (unix_of r words tapes (InUser process.pid count bank) steps traps) process.pid p
 unfolding unix_of
 entered_then r words tapes slot trap count head process bank steps traps p done done_tapes sound is_head is held served =
     served_call r head slot process trap words tapes (InUser process.pid count bank) steps traps sound is_head is refl done done_tapes served
-    ∙ ap (entered (unix_of r words tapes (InUser process.pid count bank) steps traps) process.pid) (caller_is r words (InUser process.pid count bank) slot process p sound is refl held)
+    ∙ ap (call_entered (unix_of r words tapes (InUser process.pid count bank) steps traps) process.pid) (caller_is r words (InUser process.pid count bank) slot process p sound is refl held)
 
 pub is_inside : (r : Records) (slot : ℕ) (process : ProcRec) → AreSound r → IsIn r slot process → process.state ≡ 2 → IsInside r (r.procs slot)
 is_inside r slot process sound is state = subst (IsInside r) (sym is.there) (state, sound.in_calls.calls slot process is state)

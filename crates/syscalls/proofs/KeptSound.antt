@@ -13,7 +13,7 @@ use Rattle.record_layouts.specs.declared.proc.ProcRec.{ProcRec}
 use Rattle.record_layouts.specs.declared.desc.DescRec.{DescRec}
 use Rattle.record_layouts.specs.declared.term.TermRec.{TermRec}
 use Rattle.record_layouts.specs.declared.row.RowRec.{RowRec}
-use Rattle.record_layouts.specs.Calls.{tty_piece}
+use Rattle.record_layouts.specs.Unix.Calls.{tty_piece}
 use Rattle.record_layouts.specs.Held.{Records, with_items}
 use Rattle.record_layouts.specs.Pages.{is_live, pages_of}
 use Rattle.record_layouts.specs.Proc.{FitsLive, FitsProc}

@@ -12,8 +12,8 @@ use Rattle.record_layouts.specs.declared.head.HeadRec.{HeadRec}
 use Rattle.record_layouts.specs.declared.proc.ProcRec.{ProcRec}
 use Rattle.record_layouts.specs.declared.desc.DescRec.{DescRec}
 use Rattle.record_layouts.specs.declared.patch.PatchItem.{PatchItem}
-use Rattle.record_layouts.specs.Unix.{Unix, Process, Terminal, Out, In, Description, OnTty, OnFile}
-use Rattle.record_layouts.specs.Calls.{answered, argument, call_number, called, continued, description_of, entered, ended_as, exit_entry, piece_by, piece_on, piece_of, stays_in, stopped, trapped, tty_piece, tty_write, with_process, write_entry, write_on, write_through, written_on, written_to, yield_entry, getpid_entry}
+use Rattle.record_layouts.specs.Unix.State.{Unix, Process, Terminal, Out, In, Description, OnTty, OnFile}
+use Rattle.record_layouts.specs.Unix.Calls.{answered, argument, call_number, called, continued, description_of, call_entered, ended_as, exit_entry, piece_by, piece_on, piece_of, stays_in, stopped, trapped, tty_piece, tty_write, with_process, write_entry, write_on, write_through, written_on, written_to, yield_entry, getpid_entry}
 use Rattle.record_layouts.specs.Held.{Records, with_items}
 use Rattle.record_layouts.specs.Pages.{is_live, pages_of}
 use Rattle.record_layouts.specs.Decode.{Context, InKernel, InUser, call_of, descriptor_of, object_of, process_of, processes_of, terminal_by, unix_of}
@@ -258,8 +258,8 @@ module _ (r : Records) (head : HeadRec) (slot : ℕ) (process : ProcRec) (trap :
   -- the call that it makes
   pub served_call : (now : Records) (now_tapes : ℕ → List ℕ)
       → IsDone r words tapes slot process (planned_call r words slot trap head process (bank_by context process)) now now_tapes
-      → Ends now now_tapes (entered (unix_of r words tapes context steps traps) process.pid caller)
-  unfolding planned_call entered
+      → Ends now now_tapes (call_entered (unix_of r words tapes context steps traps) process.pid caller)
+  unfolding planned_call call_entered
   served_call now now_tapes served = served_number (register (bank_by context process).regs 17) now now_tapes served
 
 -- a further piece of the call that a process is in

@@ -2,8 +2,8 @@
 use Rattle.std.proofs.Common.{◌≡◌, ◌≢◌, ◌==◌, ℕ, ◌+◌, ◌<◌, Bool, true, false, List, ◌++◌, Option, Some, None, inl, inr, refl, sym, ap, subst, ◌∙◌, arith}
 use Rattle.ow_base.specs.Words.{updated}
 use Rattle.record_layouts.specs.declared.term.TermRec.{TermRec}
-use Rattle.record_layouts.specs.Unix.{Terminal}
-use Rattle.record_layouts.specs.Calls.{with_tape}
+use Rattle.record_layouts.specs.Unix.State.{Terminal}
+use Rattle.record_layouts.specs.Unix.Calls.{with_tape}
 use Rattle.record_layouts.specs.Held.{Records}
 use Rattle.record_layouts.specs.Decode.{tape_by, terminal_by}
 use Rattle.process_table.proofs.Kept.{set_here, set_other, same_or_not}

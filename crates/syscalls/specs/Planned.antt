@@ -10,7 +10,7 @@ use Rattle.record_layouts.specs.declared.head.HeadRec.{HeadRec}
 use Rattle.record_layouts.specs.declared.proc.ProcRec.{ProcRec}
 use Rattle.record_layouts.specs.declared.desc.DescRec.{DescRec}
 use Rattle.record_layouts.specs.declared.patch.PatchItem.{PatchItem}
-use Rattle.record_layouts.specs.Calls.{tty_piece}
+use Rattle.record_layouts.specs.Unix.Calls.{tty_piece}
 use Rattle.record_layouts.specs.Held.{Records}
 use Rattle.record_layouts.specs.Pages.{pages_of}
 use Rattle.syscalls.specs.declared.caller.Caller.{Caller}

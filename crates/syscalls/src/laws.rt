@@ -5,25 +5,25 @@ ghost use Rattle.ow_base.specs.Sv32.{WordMap};
 ghost use Rattle.ow_base.specs.declared.machine.Bank.{Bank};
 ghost use Rattle.record_layouts.specs.declared.head.HeadRec.{HeadRec};
 ghost use Rattle.record_layouts.specs.declared.proc.ProcRec.{ProcRec};
-ghost use Rattle.record_layouts.specs.Calls.{entered, piece_of};
+ghost use Rattle.record_layouts.specs.Unix.Calls.{call_entered, piece_of};
 ghost use Rattle.record_layouts.specs.Decode.{InKernel, InUser, unix_of};
 ghost use Rattle.record_layouts.specs.Held.{Records};
 ghost use Rattle.record_layouts.specs.Sound.{AreSound, IsIn};
-ghost use Rattle.record_layouts.specs.Unix.{Process};
+ghost use Rattle.record_layouts.specs.Unix.State.{Process};
 ghost use Rattle.process_table.specs.Meaning.{KeepDescriptors};
 ghost use Rattle.syscalls.specs.Done.{IsDone, KeepsSound};
 ghost use Rattle.syscalls.specs.Planned.{items_in, planned_call, planned_piece};
 ghost use Rattle.syscalls.specs.Serving.{CanCall, IsInside};
 
 /// Once what the call of a process in user mode asks for is done, the records and tapes stand for the state in which
-/// the call is entered.
+/// the call is call_entered.
 pub const fn calls_are_entered()
     ensures { (r : Records) (words : WordMap) (tapes : ℕ → List ℕ) (slot trap count : ℕ) (head : HeadRec) (process : ProcRec) (bank : Bank)
         (steps traps : ℕ) (p : Process) (done : Records) (done_tapes : ℕ → List ℕ)
         → AreSound r → r.head ≡ Some head → IsIn r slot process
         → (unix_of r words tapes (InUser process.pid count bank) steps traps).processes process.pid ≡ Some p
         → IsDone r words tapes slot process (planned_call r words slot trap head process bank) done done_tapes
-        → unix_of done words done_tapes InKernel (steps + 1) (traps + 1) ≡ entered (unix_of r words tapes (InUser process.pid count bank) steps traps) process.pid p }
+        → unix_of done words done_tapes InKernel (steps + 1) (traps + 1) ≡ call_entered (unix_of r words tapes (InUser process.pid count bank) steps traps) process.pid p }
 {}
 
 /// Once what the process in a call asks for is done, the records and tapes stand for the state in which it has made a

@@ -1,7 +1,7 @@
 use Rattle.std.proofs.Common.{◌≡◌, refl, List}
-use Rattle.record_layouts.specs.Run.{RunsFrom, ends, goes_on}
-use Rattle.record_layouts.specs.Turn.{turn}
-use Rattle.record_layouts.specs.Unix.{Unix, start_of}
+use Rattle.record_layouts.specs.Unix.Run.{RunsFrom, ends, goes_on}
+use Rattle.record_layouts.specs.Unix.Turn.{turn}
+use Rattle.record_layouts.specs.Unix.State.{Unix, start_of}
 use Rattle.ow_base.specs.declared.machine.Shape.{Shape}
 use Rattle.ow_base.specs.declared.worlds.Ending.{Ending}
 use Rattle.ow_base.specs.declared.worlds.PanicRecord.{PanicRecord}

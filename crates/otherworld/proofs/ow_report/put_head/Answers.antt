@@ -2,7 +2,7 @@
 use Rattle.std.proofs.Common.{ℕ, List, ◌++◌}
 use Rattle.std.specs.Prelude.{codes}
 use Rattle.ow_base.specs.Lines.{line, spaced, number_line}
-use Rattle.record_layouts.specs.Report.{head_text, ending_word}
+use Rattle.record_layouts.specs.Unix.Report.{head_text, ending_word}
 use Rattle.ow_base.specs.declared.worlds.Ending.{Ending}
 use Rattle.ow_base.proofs.Writing.{cut}
 use Rattle.otherworld.proofs.Reports.{begun, further, broken, finished}

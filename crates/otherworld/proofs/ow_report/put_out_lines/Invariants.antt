@@ -1,5 +1,5 @@
 use Rattle.std.proofs.Common.{◌≤◌, length}
-use Rattle.record_layouts.specs.Report.{out_lines}
+use Rattle.record_layouts.specs.Unix.Report.{out_lines}
 use Rattle.otherworld.specs.Writing.{tape_line_count}
 use Rattle.otherworld.proofs.Reports.{PartWay}
 use Rattle.otherworld.proofs.ow_report.put_out_lines.Given as goal

@@ -1,5 +1,5 @@
 use Rattle.std.proofs.Common.{◌-◌, ◌≤◌}
-use Rattle.record_layouts.specs.Report.{process_lines}
+use Rattle.record_layouts.specs.Unix.Report.{process_lines}
 use Rattle.kernel_traps.specs.Plants.{unix_at}
 use Rattle.otherworld.proofs.Reports.{PartWay}
 use Rattle.otherworld.proofs.ow_report.put_processes.Given as goal

@@ -1,5 +1,5 @@
 use Rattle.std.proofs.Common.{arith}
-use Rattle.record_layouts.specs.Report.{row_lines}
+use Rattle.record_layouts.specs.Unix.Report.{row_lines}
 use Rattle.otherworld.proofs.Reports.{rows_further, rows_broken, rows_complete}
 use Rattle.otherworld.proofs.ow_report.put_rows.Goals as goal
 

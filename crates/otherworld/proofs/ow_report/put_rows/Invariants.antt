@@ -1,5 +1,5 @@
 use Rattle.std.proofs.Common.{◌≡◌, ◌<◌, ◌≤◌, length, drop}
-use Rattle.record_layouts.specs.Report.{row_lines}
+use Rattle.record_layouts.specs.Unix.Report.{row_lines}
 use Rattle.otherworld.proofs.Reports.{PartWay}
 use Rattle.otherworld.proofs.ow_report.put_rows.Given as goal
 

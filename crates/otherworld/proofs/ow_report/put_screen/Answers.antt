@@ -1,6 +1,6 @@
 use Rattle.std.specs.Prelude.{codes, decimal}
 use Rattle.ow_base.specs.Lines.{line, spaced}
-use Rattle.record_layouts.specs.Report.{screen_text, row_lines}
+use Rattle.record_layouts.specs.Unix.Report.{screen_text, row_lines}
 use Rattle.ow_base.proofs.Writing.{cut, then_writes}
 use Rattle.otherworld.proofs.ow_report.put_screen.Goals as goal
 

@@ -1,6 +1,6 @@
 use Rattle.std.specs.Prelude.{length, codes, decimal}
 use Rattle.ow_base.specs.Lines.{line, spaced}
-use Rattle.record_layouts.specs.Report.{out_lines}
+use Rattle.record_layouts.specs.Unix.Report.{out_lines}
 use Rattle.ow_base.proofs.Writing.{cut, then_writes}
 use Rattle.otherworld.specs.Writing.{tape_line_count}
 use Rattle.otherworld.proofs.ow_report.put_tape.Goals as goal

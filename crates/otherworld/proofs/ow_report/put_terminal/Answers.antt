@@ -1,4 +1,4 @@
-use Rattle.record_layouts.specs.Report.{terminal_text, tape_text, screen_text}
+use Rattle.record_layouts.specs.Unix.Report.{terminal_text, tape_text, screen_text}
 use Rattle.ow_base.proofs.Writing.{cut, then_writes}
 use Rattle.otherworld.proofs.ow_report.put_terminal.Goals as goal
 

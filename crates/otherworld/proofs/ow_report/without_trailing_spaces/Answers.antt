@@ -1,5 +1,5 @@
 use Rattle.std.proofs.Common.{ap, sym, ◌∙◌}
-use Rattle.record_layouts.specs.Report.{trimmed}
+use Rattle.record_layouts.specs.Unix.Report.{trimmed}
 use Rattle.otherworld.proofs.Reports.{trim_space, trim_none}
 use Rattle.otherworld.proofs.ow_report.without_trailing_spaces.Goals as goal
 

@@ -1,5 +1,5 @@
 use Rattle.std.proofs.Common.{◌≡◌, length}
-use Rattle.record_layouts.specs.Report.{trimmed}
+use Rattle.record_layouts.specs.Unix.Report.{trimmed}
 use Rattle.otherworld.proofs.ow_report.without_trailing_spaces.Given as goal
 
 -- what is left has the same bytes before its trailing spaces

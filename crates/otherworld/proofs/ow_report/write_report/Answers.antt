@@ -2,7 +2,7 @@
 use Rattle.std.proofs.Common.{◌++◌, ◌-◌}
 use Rattle.std.specs.Prelude.{codes}
 use Rattle.ow_base.specs.Lines.{line}
-use Rattle.record_layouts.specs.Report.{head_text, process_lines, terminal_text}
+use Rattle.record_layouts.specs.Unix.Report.{head_text, process_lines, terminal_text}
 use Rattle.ow_base.proofs.Writing.{cut}
 use Rattle.kernel_traps.specs.Plants.{unix_at}
 use Rattle.otherworld.proofs.Reports.{begun, further, broken, finished, report_parts}

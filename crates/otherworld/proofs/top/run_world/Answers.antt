@@ -1,5 +1,5 @@
 use Rattle.std.proofs.Common.{refl, ◌∙◌, inl, inr}
-use Rattle.record_layouts.specs.Report.{report_of}
+use Rattle.record_layouts.specs.Unix.Report.{report_of}
 use Rattle.kernel_traps.specs.Plants.{unix_at}
 use Rattle.otherworld.proofs.Tops.{reports}
 use Rattle.otherworld.proofs.top.run_world.Goals as goal

@@ -1,6 +1,6 @@
 use Rattle.std.proofs.Common.{◌≡◌, Some, arith}
 use Rattle.std.proofs.lemmas.Grind.{common_steps}
-use Rattle.record_layouts.specs.Choice.{least_from}
+use Rattle.record_layouts.specs.Unix.Choice.{least_from}
 use Rattle.record_layouts.specs.Decode.{is_pending}
 use Rattle.process_table.specs.Choosing.{next_signal}
 use Rattle.process_table.proofs.Least.{least_by}

@@ -2,7 +2,7 @@ use Rattle.std.proofs.Common.{◌≡◌, ◌∙◌, ◌<◌, ◌≤◌, true, Ok
 use Rattle.std.proofs.lemmas.Grind.{common_steps}
 use Rattle.ow_base.specs.declared.machine.Shape.{Shape}
 use Rattle.std.specs.List.{list_any}
-use Rattle.record_layouts.specs.Turn.{closed}
+use Rattle.record_layouts.specs.Unix.Turn.{closed}
 use Rattle.ow_base.specs.declared.machine.Panicked.{Panicked}
 use Rattle.ow_plant.specs.Points.{is_in}
 use Rattle.ow_plant.specs.State.{PlantState, risen}

@@ -2,7 +2,7 @@
 use Rattle.std.specs.Prelude.{ℕ, zero, suc, ◌+◌, ◌-◌, ◌/◌, nat_lt, ◌==◌, if◌then◌else◌, List, [], ◌∷◌, ◌++◌, length, take, drop, codes, decimal, Option, Some, None}
 use Rattle.ow_base.specs.Lines.{line, spaced, number_line, escaped}
 use Rattle.ow_base.specs.Screen.{Screen, screen_of}
-use Rattle.record_layouts.specs.Unix.{Unix, Terminal}
+use Rattle.record_layouts.specs.Unix.State.{Unix, Terminal}
 use Rattle.ow_base.specs.declared.worlds.Ending.{Ending}
 use Rattle.ow_base.specs.declared.worlds.Ending.TheVariants.{Done, Budget, Restarted}
 

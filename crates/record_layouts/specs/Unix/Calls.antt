@@ -3,7 +3,7 @@ use Rattle.std.specs.Prelude.{ℕ, ◌+◌, ◌-◌, ◌%◌, Bool, true, false,
 use Rattle.ow_base.specs.Words.{wrapped, minus, updated}
 use Rattle.ow_base.specs.UserStep.{register, with_register}
 use Rattle.ow_base.specs.Pages.{is_readable, bytes_at}
-use Rattle.record_layouts.specs.Unix.{Unix, Process, CallState, Out, In, AtKernel, EndedChild, Object, OnFile, OnTty, Description, Terminal, in_use}
+use Rattle.record_layouts.specs.Unix.State.{Unix, Process, CallState, Out, In, AtKernel, EndedChild, Object, OnFile, OnTty, Description, Terminal, in_use}
 
 -- the argument registers, and the register of the call's number
 abbrev pub argument : Process → (index : ℕ) → ℕ
@@ -125,8 +125,8 @@ called u pid p number =
     answered u pid p (minus 38)
 
 -- Enter: the first piece of the call of a process
-unfoldable pub entered : Unix → (pid : ℕ) → Process → Unix
-entered u pid p = called (trapped u pid) pid p (call_number p)
+unfoldable pub call_entered : Unix → (pid : ℕ) → Process → Unix
+call_entered u pid p = called (trapped u pid) pid p (call_number p)
 
 -- a further piece of a write
 abbrev pub piece_on : Unix → (pid : ℕ) → Process → (done : ℕ) → Option Description → Unix

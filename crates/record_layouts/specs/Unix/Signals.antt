@@ -2,8 +2,8 @@
 use Rattle.std.specs.Prelude.{ℕ, ◌+◌, ◌-◌, false, ◌==◌, if◌then◌else◌, slice_index, Some}
 use Rattle.ow_base.specs.Words.{wrapped, minus, updated}
 use Rattle.ow_base.specs.UserStep.{with_register}
-use Rattle.record_layouts.specs.Unix.{Unix, Process, CallState, Out, In}
-use Rattle.record_layouts.specs.Calls.{trapped, with_process, ended_as}
+use Rattle.record_layouts.specs.Unix.State.{Unix, Process, CallState, Out, In}
+use Rattle.record_layouts.specs.Unix.Calls.{trapped, with_process, ended_as}
 
 -- a call in progress ends with the bytes done, or with EINTR 4 where there are none
 abbrev pub interrupted_in : Process → CallState → Process

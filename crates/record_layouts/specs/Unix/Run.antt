@@ -1,7 +1,7 @@
 -- Run: the turns of a world, one after the other, until it ends.
 use Rattle.std.specs.Prelude.{◌≡◌, List, [], Some, None}
-use Rattle.record_layouts.specs.Unix.{Unix, start_of}
-use Rattle.record_layouts.specs.Turn.{turn, ending_of, closed}
+use Rattle.record_layouts.specs.Unix.State.{Unix, start_of}
+use Rattle.record_layouts.specs.Unix.Turn.{turn, ending_of, closed}
 use Rattle.ow_base.specs.declared.machine.Shape.{Shape}
 use Rattle.ow_base.specs.declared.worlds.World.{World}
 use Rattle.ow_base.specs.declared.worlds.Ending.{Ending}

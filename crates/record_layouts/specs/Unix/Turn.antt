@@ -2,10 +2,10 @@
 use Rattle.std.specs.Prelude.{ℕ, ◌+◌, nat_lt, ◌==◌, if◌then◌else◌, Option, Some, None}
 use Rattle.ow_base.specs.UserStep.{Stepped, Next, Call, Faulted, user_step}
 use Rattle.ow_base.specs.Pages.{Pages, page_space}
-use Rattle.record_layouts.specs.Unix.{Unix, Process, Position, AtKernel, AtUser, AtPanic}
-use Rattle.record_layouts.specs.Choice.{Keys, no_keys, chosen, deliverable, settled, has_live_process}
-use Rattle.record_layouts.specs.Signals.{signalled}
-use Rattle.record_layouts.specs.Calls.{trapped, with_process, ended_as, entered, piece_of}
+use Rattle.record_layouts.specs.Unix.State.{Unix, Process, Position, AtKernel, AtUser, AtPanic}
+use Rattle.record_layouts.specs.Unix.Choice.{Keys, no_keys, chosen, deliverable, settled, has_live_process}
+use Rattle.record_layouts.specs.Unix.Signals.{signalled}
+use Rattle.record_layouts.specs.Unix.Calls.{trapped, with_process, ended_as, call_entered, piece_of}
 use Rattle.ow_base.specs.declared.machine.Shape.{Shape}
 use Rattle.ow_base.specs.declared.worlds.Ending.{Ending}
 use Rattle.ow_base.specs.declared.worlds.Ending.TheVariants.{Done, Budget}
@@ -21,7 +21,7 @@ stepped u pid count p (Next regs pc pages) =
       steps = u.steps + 1;
       position = AtUser pid (count + 1);
     }
-stepped u pid count p Call = entered u pid p
+stepped u pid count p Call = call_entered u pid p
 stepped u pid count p (Faulted fault) = ended_as (trapped u pid) pid p (0x200 + fault.cause)
 
 -- in user mode: an instruction, or the end of the slice after quantum of them

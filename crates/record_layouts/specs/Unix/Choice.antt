@@ -1,7 +1,7 @@
 -- Which process is next.
 use Rattle.std.specs.Prelude.{ℕ, zero, suc, ◌+◌, ◌-◌, Bool, true, false, nat_lt, not, ◌==◌, ◌||◌, if◌then◌else◌, Option, Some, None, is_some}
-use Rattle.record_layouts.specs.Unix.{most_pids, Unix, Process, EndedChild, Description, Object, OnFile, OnTty, CallState, Out, In, Position, AtKernel, AtUser, AtPanic}
-use Rattle.record_layouts.specs.Calls.{argument, description_of}
+use Rattle.record_layouts.specs.Unix.State.{most_pids, Unix, Process, EndedChild, Description, Object, OnFile, OnTty, CallState, Out, In, Position, AtKernel, AtUser, AtPanic}
+use Rattle.record_layouts.specs.Unix.Calls.{argument, description_of}
 
 -- of each terminal, how many of its typed bytes have arrived by the coming trap, and how many there are in all
 pub record Keys : Type 0 where
@@ -99,12 +99,12 @@ returned_as u pid (Some signal) call = u
 returned_as u pid None Out = record u { position = AtUser pid 0; last_pid = pid }
 returned_as u pid None (In number done) = u
 
-abbrev pub returned_to : Unix → (pid : ℕ) → Option Process → Unix
-returned_to u pid (Some p) = returned_as u pid (deliverable p) p.call
-returned_to u pid None = u
+abbrev pub settled_to : Unix → (pid : ℕ) → Option Process → Unix
+settled_to u pid (Some p) = returned_as u pid (deliverable p) p.call
+settled_to u pid None = u
 
 abbrev pub settled_on : Unix → Option ℕ → Unix
-settled_on u (Some pid) = returned_to u pid (u.processes pid)
+settled_on u (Some pid) = settled_to u pid (u.processes pid)
 settled_on u None = u
 
 abbrev pub settled_at : Keys → Unix → Position → Unix
