@@ -1,30 +1,31 @@
 //! The regions of processes, and the frame of a page whose records are as they should be but for one word.
 
-use crate::{Rights, claim_word, page_frame, pages, region};
-use ow_base::{WordSource, put_seal};
+use crate::small_memory::{
+    AREA_FRAMES, HIGH_2, LOW_2, MAP, OWNER_0, PROC, PROC_2, ROOT_2, SmallMemory, sealed,
+};
+use frame_table::{Rights, claim_word, page_frame, pages, region};
 use record_layouts::{AreaView, MemoryMap, ProcRec};
 use std::alloc::{AllocError, Global};
 use std::test::Fail;
 
-const MAP: MemoryMap = MemoryMap {
-    area_base: 1,
-    cache_base: 65,
-    pool_base: 129,
+const USERS: MemoryMap = MemoryMap {
     user_frames: 32,
-    sectors: 0,
+    ..MAP
 };
 
 // The words of a process with this state, these pages of code and of data, and this break.
 fn process(state: u32, code_pages: u32, data_pages: u32, brk: u32) -> [u32; 128] {
-    let mut words = [0; 128];
-    words[0] = 0x5052_4f43;
-    words[1] = state;
-    words[2] = state.min(1);
-    words[6] = code_pages;
-    words[7] = data_pages;
-    words[8] = brk;
-    put_seal(&mut words);
-    words
+    sealed(&[
+        PROC,
+        state,
+        state.min(1),
+        0,
+        0,
+        0,
+        code_pages,
+        data_pages,
+        brk,
+    ])
 }
 
 const CODE: Option<Rights> = Some(Rights::Code);
@@ -74,43 +75,16 @@ fn regions_of_processes(rt: HostRuntime) {
     }
 }
 
-// Memory with the 64 frames of the area and no other.
-#[derive(Drop)]
-struct Memory {
-    words: Vec<u32>,
-}
-
-impl Memory {
-    // Slot 2 has a process of two pages of code, one of data, two of heap and four of stack, and of its tables one word
-    // of the root and one entry are not 0; user frame 5 has an owner.
-    fn new(alloc: Global, [page, root, entry, owner]: [u32; 4]) -> Result<Memory, AllocError> {
-        let mut words = vec![in alloc; 0u32; 65536]?;
-        words[1280..1408].copy_from_slice(&process(1, 2, 1, 4097));
-        words[10245] = owner;
-        words[22 * 1024 + (page / 1024 % 1024) as usize] = root;
-        let table = if page < 1024 { 23 } else { 24 };
-        words[table * 1024 + (page % 1024) as usize] = entry;
-        Ok(Memory { words })
-    }
-}
-
-impl WordSource for Memory {
-    ghost use Rattle.std.specs.Prelude.{◌+◌, ◌-◌, ◌*◌, ◌||◌, nat_lt, not, if◌then◌else◌, slice_index, Some, None};
-
-    ghost words = { λ m frame place.
-        if nat_lt frame 1 || not (nat_lt frame 65) then None else Some (slice_index m.words.items (1024 * (frame - 1) + place)) };
-
-    fn load(&self, frame: u32, word: u32) -> Option<u32> {
-        if frame < 1 || frame >= 65 {
-            return None;
-        }
-        Some(
-            self.words
-                .get((1024 * (frame - 1) + word) as usize)
-                .copied()
-                .unwrap_or(0),
-        )
-    }
+// Slot 2 has a process of two pages of code, one of data, two of heap and four of stack, and of its tables one word
+// of the root and one entry are not 0; user frame 5 has an owner.
+fn tables(alloc: Global, [page, root, entry, owner]: [u32; 4]) -> Result<SmallMemory, AllocError> {
+    let mut memory = SmallMemory::new(alloc, MAP.area_base, AREA_FRAMES)?;
+    memory.put(PROC_2, &process(1, 2, 1, 4097));
+    memory.put(OWNER_0 + 5, &[owner]);
+    memory.put(ROOT_2 + (page / 1024 % 1024) as usize, &[root]);
+    let table = if page < 1024 { LOW_2 } else { HIGH_2 };
+    memory.put(table + (page % 1024) as usize, &[entry]);
+    Ok(memory)
 }
 
 // The pointers to the low table of slot 2 and to its high one, in frames 24 and 25 of memory.
@@ -153,8 +127,8 @@ const CASES: [([u32; 4], Option<u32>); 20] = [
 #[test]
 fn frames_of_pages(rt: HostRuntime) -> Result<(), Fail> {
     for (words, frame) in CASES {
-        let memory = Memory::new(rt.alloc(), words)?;
-        let view = AreaView::new(&memory, MAP);
+        let memory = tables(rt.alloc(), words)?;
+        let view = AreaView::new(&memory, USERS);
         let page = words[0] % 0x10_0000;
         assert_eq!(rt; page_frame(&view, 2, page), frame, "{words:?}");
         // Another slot has no such page.

@@ -1,7 +1,7 @@
 //! Tests of hand-overs.
 
-use super::HandOver;
 use ow_base::{Bank, Came, Regs, put_seal};
+use panic_handover::HandOver;
 
 // The words of a hand-over: in trap 7 process 3 had made a call.
 fn called_words() -> [u32; 40] {

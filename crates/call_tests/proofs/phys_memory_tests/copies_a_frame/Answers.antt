@@ -3,7 +3,7 @@ use Rattle.ow_base.specs.declared.machine.AreaId.TheVariants.{A}
 use Rattle.phys_memory.specs.Memory.{IsSized}
 use Rattle.phys_memory.proofs.Words.{IsSized-zeroed, IsSized-set, frame_count-sized}
 use Rattle.phys_memory.proofs.Own.{first_own-sized_a, own_half-sized}
-use Rattle.phys_memory.proofs.tests.copies_a_frame.Goals as goal
+use Rattle.call_tests.proofs.phys_memory_tests.copies_a_frame.Goals as goal
 
 pub store-requires-clause-frame : goal.store-requires-clause-frame
 store-requires-clause-frame g c =

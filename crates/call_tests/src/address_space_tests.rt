@@ -1,89 +1,49 @@
 //! Ranges of a process with two pages of code, one of data, one of heap and four of stack. What each must give is
 //! worked out from the words of memory.
 
-use crate::{Efault, can_read, can_write, user_bytes};
-use ow_base::{WordSource, put_seal};
+use crate::small_memory::{HIGH_2, LOW_2, MAP, OWNER_0, PROC, PROC_2, ROOT_2, SmallMemory};
+use address_space::{Efault, can_read, can_write, user_bytes};
 use record_layouts::{AreaView, MemoryMap};
 use std::alloc::{AllocError, Global};
 use std::test::Fail;
 
-const MAP: MemoryMap = MemoryMap {
-    area_base: 1,
-    cache_base: 65,
-    pool_base: 129,
+const USERS: MemoryMap = MemoryMap {
     user_frames: 16,
-    sectors: 0,
+    ..MAP
 };
 
 // The slot of the process.
 const SLOT: u32 = 2;
-
-// Memory with the frames of the area, of the cache and of users, and no other.
-#[derive(Drop)]
-struct Memory {
-    words: Vec<u32>,
-}
 
 // The pages to which the user frames belong.
 const PAGES: [u32; 16] = [
     27, 26, 25, 24, 23, 22, 21, 20, 19, 18, 17, 16, 0x7_fffc, 0x7_fffd, 0x7_fffe, 0x7_ffff,
 ];
 
-impl Memory {
-    // Pages are of code up to the first of values. Counted through all user frames, word `n` holds `4 * n` in its two low
-    // bytes and again in its two high ones.
-    fn new(alloc: Global, brk: u32, first_of_values: u32) -> Result<Memory, AllocError> {
-        let mut memory = Memory {
-            words: vec![in alloc; 0u32; 147456]?,
-        };
-        let mut process = [0; 128];
-        process[..9].copy_from_slice(&[0x5052_4f43, 1, 7, 0, 0, 0, 2, 1, brk]);
-        put_seal(&mut process);
-        memory.put(1280, &process);
-        memory.put(22528, &[0x6001]);
-        memory.put(22528 + 511, &[0x6401]);
-        for (number, page) in PAGES.into_iter().enumerate() {
-            let flags = if page < first_of_values { 0x5b } else { 0xd7 };
-            let frame = 129u32.wrapping_add(number as u32);
-            let table = if page < 1024 { 23552 } else { 24576 };
-            memory.put(
-                table + (page % 1024) as usize,
-                &[frame.wrapping_mul(1024).wrapping_add(flags)],
-            );
-            memory.put(number.wrapping_add(10240), &[page.wrapping_add(0x30_0000)]);
-        }
-        for word in 0..16384u32 {
-            memory.put(131072 + word as usize, &[word.wrapping_mul(0x4_0004)]);
-        }
-        Ok(memory)
+// The frames of the area, of the cache and of users. Pages are of code up to the first of values. Counted through all
+// user frames, word `n` holds `4 * n` in its two low bytes and again in its two high ones.
+fn memory_of(alloc: Global, brk: u32, first_of_values: u32) -> Result<SmallMemory, AllocError> {
+    let mut memory = SmallMemory::new(alloc, MAP.area_base, 144)?;
+    memory.put_record(PROC_2, 128, &[PROC, 1, 7, 0, 0, 0, 2, 1, brk]);
+    memory.put(ROOT_2, &[0x6001]);
+    memory.put(ROOT_2 + 511, &[0x6401]);
+    for (number, page) in PAGES.into_iter().enumerate() {
+        let flags = if page < first_of_values { 0x5b } else { 0xd7 };
+        let frame = 129u32.wrapping_add(number as u32);
+        let table = if page < 1024 { LOW_2 } else { HIGH_2 };
+        memory.put(
+            table + (page % 1024) as usize,
+            &[frame.wrapping_mul(1024).wrapping_add(flags)],
+        );
+        memory.put(
+            number.wrapping_add(OWNER_0),
+            &[page.wrapping_add(0x30_0000)],
+        );
     }
-
-    fn put(&mut self, number: usize, words: &[u32]) {
-        for (place, word) in words.iter().enumerate() {
-            if let Some(changed) = self.words.get_mut(number.wrapping_add(place)) {
-                *changed = *word;
-            }
-        }
+    for word in 0..16384u32 {
+        memory.put(131072 + word as usize, &[word.wrapping_mul(0x4_0004)]);
     }
-}
-
-impl WordSource for Memory {
-    ghost use Rattle.std.specs.Prelude.{◌+◌, ◌-◌, ◌*◌, ◌||◌, nat_lt, not, if◌then◌else◌, slice_index, Some, None};
-
-    ghost words = { λ m frame place.
-        if nat_lt frame 1 || not (nat_lt frame 145) then None else Some (slice_index m.words.items (1024 * (frame - 1) + place)) };
-
-    fn load(&self, frame: u32, word: u32) -> Option<u32> {
-        if frame < 1 || frame >= 145 {
-            return None;
-        }
-        Some(
-            self.words
-                .get((1024 * (frame - 1) + word) as usize)
-                .copied()
-                .unwrap_or(0),
-        )
-    }
+    Ok(memory)
 }
 
 // An address, and the bytes from there on, or how many are asked for where that is refused.
@@ -111,8 +71,8 @@ const READS: [(u32, Result<&[u8], u32>); 15] = [
 
 #[test]
 fn bytes_of_a_process(rt: HostRuntime) -> Result<(), Fail> {
-    let memory = Memory::new(rt.alloc(), 1, 18)?;
-    let view = AreaView::new(&memory, MAP);
+    let memory = memory_of(rt.alloc(), 1, 18)?;
+    let view = AreaView::new(&memory, USERS);
     for (addr, want) in READS {
         let mut room = [0xee; 4];
         let count = match want {
@@ -154,8 +114,8 @@ const RANGES: [(u32, u32, bool, bool); 12] = [
 
 #[test]
 fn ranges_of_a_process(rt: HostRuntime) -> Result<(), Fail> {
-    let memory = Memory::new(rt.alloc(), 1, 18)?;
-    let view = AreaView::new(&memory, MAP);
+    let memory = memory_of(rt.alloc(), 1, 18)?;
+    let view = AreaView::new(&memory, USERS);
     for (addr, count, writes, reads) in RANGES {
         let can = (
             can_write(&view, SLOT, addr, count).is_ok(),
@@ -166,8 +126,8 @@ fn ranges_of_a_process(rt: HostRuntime) -> Result<(), Fail> {
     }
     // Page 17 of code has an entry that does not fit it, and so no frame; and a record that does not decode.
     for (brk, first_of_values, addr) in [(1, 17, 0x0001_1000), (0x40_0000, 18, 0x0001_2000)] {
-        let memory = Memory::new(rt.alloc(), brk, first_of_values)?;
-        let view = AreaView::new(&memory, MAP);
+        let memory = memory_of(rt.alloc(), brk, first_of_values)?;
+        let view = AreaView::new(&memory, USERS);
         assert_eq!(rt; can_read(&view, SLOT, addr, 1), Err(Efault));
         assert_eq!(rt; can_write(&view, SLOT, addr, 1), Err(Efault));
         assert_eq!(rt; user_bytes(&view, SLOT, addr, &mut [0; 1]), Err(Efault));

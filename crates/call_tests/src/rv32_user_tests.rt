@@ -2,12 +2,11 @@
 
 ghost use Rattle.std.specs.Prelude.{◌≡◌, ◌<◌, ◌+◌, ◌^◌, slice_index};
 ghost use Rattle.ow_base.specs.UserStep.{user_step};
-ghost use Rattle.rv32_user.specs.SmallSpace.{number_at, small_space};
+ghost use Rattle.call_tests.specs.SmallSpace.{number_at, small_space};
 ghost use Rattle.rv32_user.specs.Step.{ends};
 
-use crate::space::Space;
-use crate::stepping::{StepEnd, step};
 use ow_base::{Fault, Regs, Width};
+use rv32_user::{Space, StepEnd, step};
 
 // Code in bytes 0 to 31, values in bytes 32 to 63, and nothing behind them.
 #[derive(Drop)]
@@ -42,7 +41,7 @@ impl Memory {
 
 impl Space for Memory {
     ghost use Rattle.std.specs.Prelude.{List, ℕ};
-    ghost use Rattle.rv32_user.specs.SmallSpace.{small_space};
+    ghost use Rattle.call_tests.specs.SmallSpace.{small_space};
 
     ghost Image = { List ℕ };
 

@@ -2,8 +2,10 @@
 
 ghost use Rattle.std.specs.Prelude.{◌<◌};
 
-use crate::fields::{BranchOffset, Immediate, JumpOffset, Register, ShiftAmount, UpperImmediate};
-use crate::{Instr, decode, encode};
+use rv32_isa::{
+    BranchOffset, Immediate, Instr, JumpOffset, Register, ShiftAmount, UpperImmediate, decode,
+    encode,
+};
 
 fn x(number: u32) -> Register
     requires { number < 32 }
@@ -30,7 +32,11 @@ fn words_of_instructions(rt: HostRuntime) {
     ];
     for (word, instr) in table {
         assert_eq!(rt; decode(word), Some(instr), "at {word:x}");
-        assert_eq!(rt; decode(word).map(encode), Some(word), "at {word:x}");
+        assert_eq!(rt;
+            decode(word).map(|instr| encode(instr)),
+            Some(word),
+            "at {word:x}"
+        );
     }
 }
 
@@ -49,7 +55,11 @@ fn words_of_wide_immediates(rt: HostRuntime) {
 #[test]
 fn rows_and_others(rt: HostRuntime) {
     for fence in [0x0ff0_000f, 0x0000_000f, 0xffff_8f8f] {
-        assert_eq!(rt; decode(fence).map(encode), Some(fence), "at {fence:x}");
+        assert_eq!(rt;
+            decode(fence).map(|instr| encode(instr)),
+            Some(fence),
+            "at {fence:x}"
+        );
     }
     let others = [
         0,

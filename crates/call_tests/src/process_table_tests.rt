@@ -1,137 +1,59 @@
 //! What is chosen and what is set, by the records of an area.
 
 ghost use Rattle.std.specs.Prelude.{◌<◌, ◌≡◌, true, IsTrue};
+ghost use Rattle.process_table.specs.Choosing.{HasSignal};
 ghost use Rattle.process_table.specs.Slots.{is_live_one};
 
-use crate::signals::signal_of;
-use crate::slots::is_live;
-use crate::{
-    Bank, Choice, Now, Patch, choose, end_process, free_slot, next_pid, save_bank, take_signal,
+use crate::small_memory::{
+    AREA_FRAMES, DESC, EXIT, HEAD, MAP, PROC, SIG, SmallMemory, TERM, TERM_0,
 };
-use ow_base::{Regs, put_seal};
-use record_layouts::{AnyRec, AreaView, MemoryMap, RecordView, WordSource};
+use ow_base::{Bank, Now, Regs};
+use process_table::{Choice, choose, end_process, free_slot, next_pid, save_bank, take_signal};
+use record_layouts::{AnyRec, AreaView, Patch, RecordView};
 use std::alloc::{AllocError, Global};
 use std::test::Fail;
-
-const MAP: MemoryMap = MemoryMap {
-    area_base: 0,
-    cache_base: 64,
-    pool_base: 128,
-    user_frames: 0,
-    sectors: 0,
-};
 
 // A process by its state, pid, parent and call, and the signals that are pending.
 type Held = [u32; 5];
 
 const FREE: Held = [0; 5];
 
-// Memory with the 64 frames of an area and no other.
-#[derive(Drop)]
-struct Memory {
-    words: Vec<u32>,
+// A kernel with these processes in its first slots and none in the others. All have one handler for each signal,
+// and a descriptor of terminal 0, of whose typed bytes three are consumed.
+fn kernel(
+    alloc: Global,
+    last: u32,
+    next: u32,
+    handler: u32,
+    front: &[Held],
+) -> Result<SmallMemory, AllocError> {
+    let mut memory = SmallMemory::new(alloc, MAP.area_base, AREA_FRAMES)?;
+    memory.put_record(0, 16, &[HEAD, 1, 5, last, next]);
+    memory.put_record(3584, 16, &[DESC, 2, 0, 1]);
+    memory.put_record(TERM_0, 16, &[TERM, 0, 3, 0, 3]);
+    for slot in 0..16 {
+        let held = front.get(slot).copied().unwrap_or(FREE);
+        put_process(&mut memory, slot, handler, held);
+    }
+    Ok(memory)
 }
 
-impl Memory {
-    // A kernel with these processes in its first slots and none in the others. All have one handler for each signal,
-    // and a descriptor of terminal 0, of whose typed bytes three are consumed.
-    fn new(
-        alloc: Global,
-        last: u32,
-        next: u32,
-        handler: u32,
-        front: &[Held],
-    ) -> Result<Memory, AllocError> {
-        let mut memory = Memory {
-            words: vec![in alloc; 0u32; 65536]?,
-        };
-        memory.put(0, 16, &[0x4845_4144, 1, 5, last, next]);
-        memory.put(3584, 16, &[0x4f50_454e, 2, 0, 1]);
-        memory.put(7680, 16, &[0x5445_524d, 0, 3, 0, 3]);
-        for slot in 0..16 {
-            let [state, pid, parent, call, pending] = front.get(slot).copied().unwrap_or(FREE);
-            let pages = if state == 1 || state == 2 { 1 } else { 0 };
-            memory.put(
-                1024 + 128 * slot,
-                128,
-                &[
-                    0x5052_4f43,
-                    state,
-                    pid,
-                    parent,
-                    call,
-                    0,
-                    pages,
-                    0,
-                    0,
-                    0,
-                    0,
-                    0,
-                    0,
-                    pages,
-                ],
-            );
-            memory.put(
-                3072 + 32 * slot,
-                32,
-                &[
-                    0x5349_4753,
-                    pid,
-                    pending,
-                    handler,
-                    handler,
-                    handler,
-                    handler,
-                    handler,
-                    handler,
-                    handler,
-                    handler,
-                    handler,
-                ],
-            );
-            if state != 0 {
-                memory.put(
-                    11260 + 4 * (pid % 64) as usize,
-                    4,
-                    &[0x4558_4954, if pages == 1 { 1 } else { 2 }],
-                );
-            }
-        }
-        Ok(memory)
-    }
-
-    // A record of so many words that begins so is sealed and put in its place.
-    fn put(&mut self, number: usize, count: usize, front: &[u32]) {
-        let mut words = [0; 128];
-        for (to, from) in words.iter_mut().zip(front) {
-            *to = *from;
-        }
-        let count = count.clamp(2, 128);
-        put_seal(&mut words[..count]);
-        for (place, word) in words.iter().take(count).enumerate() {
-            if let Some(changed) = self.words.get_mut(number.wrapping_add(place)) {
-                *changed = *word;
-            }
-        }
-    }
-}
-
-impl WordSource for Memory {
-    ghost use Rattle.std.specs.Prelude.{◌+◌, ◌*◌, nat_lt, if◌then◌else◌, slice_index, Some, None};
-
-    ghost words = { λ m frame place.
-        if nat_lt frame 64 then Some (slice_index m.words.items (1024 * frame + place)) else None };
-
-    fn load(&self, frame: u32, word: u32) -> Option<u32> {
-        if frame >= 64 {
-            return None;
-        }
-        Some(
-            self.words
-                .get((1024 * frame + word) as usize)
-                .copied()
-                .unwrap_or(0),
-        )
+// Puts a process, its signals and how it ended.
+fn put_process(memory: &mut SmallMemory, slot: usize, handler: u32, held: Held)
+    requires { slot < 16 }
+{
+    let [state, pid, parent, call, pending] = held;
+    let pages = if state == 1 || state == 2 { 1 } else { 0 };
+    let process = [
+        PROC, state, pid, parent, call, 0, pages, 0, 0, 0, 0, 0, 0, pages,
+    ];
+    memory.put_record(1024 + 128 * slot, 128, &process);
+    let mut signals = [handler; 12];
+    signals[..3].copy_from_slice(&[SIG, pid, pending]);
+    memory.put_record(3072 + 32 * slot, 32, &signals);
+    if state != 0 {
+        let exit = if pages == 1 { 1 } else { 2 };
+        memory.put_record(11260 + 4 * (pid % 64) as usize, 4, &[EXIT, exit]);
     }
 }
 
@@ -187,19 +109,23 @@ const CHOICES: [(&[Held], u32, u32, Choice); 15] = [
     (&[FREE, [3, 1, 0, 0, 0]], 0, 0, Choice::AllEnded),
 ];
 
+// What is known in trap 9 where so many of five typed bytes have arrived.
+fn now_with(arrived: u32) -> Now {
+    Now {
+        trap: 9,
+        user_frames: 0,
+        sectors: 0,
+        arrived: [arrived, 0],
+        typed: [5, 0],
+    }
+}
+
 #[test]
 fn chooses(rt: HostRuntime) -> Result<(), Fail> {
     for (front, last, arrived, want) in CHOICES {
-        let now = Now {
-            trap: 9,
-            user_frames: 0,
-            sectors: 0,
-            arrived: [arrived, 0],
-            typed: [5, 0],
-        };
-        let memory = Memory::new(rt.alloc(), last, 10, 0, front)?;
+        let memory = kernel(rt.alloc(), last, 10, 0, front)?;
         assert_eq!(rt;
-            choose(&AreaView::new(&memory, MAP), &now),
+            choose(&AreaView::new(&memory, MAP), &now_with(arrived)),
             want,
             "{front:?} {last}"
         );
@@ -216,7 +142,7 @@ fn takes_slots_and_pids(rt: HostRuntime) -> Result<(), Fail> {
         ([[3, 2, 1, 0, 0], [1, 1, 0, 0, 0]], 3, Some(2), Some(3)),
         ([[3, 2, 1, 0, 0], [3, 1, 0, 0, 0]], 3, Some(0), Some(3)),
     ] {
-        let memory = Memory::new(rt.alloc(), 0, next, 0, &front)?;
+        let memory = kernel(rt.alloc(), 0, next, 0, &front)?;
         let view = AreaView::new(&memory, MAP);
         assert_eq!(rt;
             (free_slot(&view), next_pid(&view)),
@@ -255,7 +181,15 @@ fn holds_live<V: RecordView>(view: &V, slot: u32) -> bool
     requires { slot < 16 }
     ensures { IsTrue result → is_live_one ((V.records view.now).procs slot) ≡ true }
 {
-    view.proc(slot).is_some_and(|process| is_live(&process))
+    view.proc(slot)
+        .is_some_and(|process| process.state == 1 || process.state == 2)
+}
+
+// The process in slot 0 is next, and a signal goes to it.
+fn gets_signal<V: RecordView>(view: &V) -> bool
+    ensures { IsTrue result → HasSignal (V.records view.now) 0 }
+{
+    matches!(choose(view, &now_with(0)), Choice::Signal(0))
 }
 
 // What the process in slot 0 leaves: where it ends, where its bank is saved, and where a signal goes to it.
@@ -270,10 +204,8 @@ fn left_by<V: RecordView>(view: &V) -> [[u32; 6]; 3] {
     };
     left[0] = told(&end_process(view, 0, 0x20d, 9));
     left[1] = told(&save_bank(view, 0, &bank, 9));
-    if let Some(process) = view.proc(0) {
-        if is_live(&process) && signal_of(view, 0, &process).is_some() {
-            left[2] = told(&take_signal(view, 0, 9));
-        }
+    if gets_signal(view) {
+        left[2] = told(&take_signal(view, 0, 9));
     }
     left
 }
@@ -287,7 +219,7 @@ fn patches_tell_what_is_left(rt: HostRuntime) -> Result<(), Fail> {
         ([2, 6, 0, 10, 0x210], 1, 2, [9, 6, 2, 0, 0, 0x10]),
         ([2, 6, 0, 10, 0x18], 0x808, 2, [9, 6, 1, 0, 0x808, 0x10]),
     ] {
-        let memory = Memory::new(rt.alloc(), 0, 10, handler, &[held])?;
+        let memory = kernel(rt.alloc(), 0, 10, handler, &[held])?;
         let left = left_by(&AreaView::new(&memory, MAP));
         let ended = [9, 6, 3, 0x20d, 0, 0x20d];
         assert_eq!(rt;
@@ -296,7 +228,7 @@ fn patches_tell_what_is_left(rt: HostRuntime) -> Result<(), Fail> {
             "{held:?}"
         );
     }
-    let memory = Memory::new(rt.alloc(), 0, 10, 0, &[[3, 6, 0, 0, 0]])?;
+    let memory = kernel(rt.alloc(), 0, 10, 0, &[[3, 6, 0, 0, 0]])?;
     assert_eq!(rt; left_by(&AreaView::new(&memory, MAP)), [[0; 6]; 3]);
     Ok(())
 }

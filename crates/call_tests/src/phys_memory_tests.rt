@@ -1,7 +1,7 @@
 //! Tests of memory and of its split.
 
-use crate::Memory;
 use ow_base::{AreaId, WordSource};
+use phys_memory::Memory;
 use std::test::Fail;
 
 // The least memory has 257 frames: the boot frame, half A from frame 1 on, and half B from frame 129 on.
