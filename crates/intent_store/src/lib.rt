@@ -12,6 +12,3 @@ mod payload;
 mod word_store;
 
 pub use live::{Live, live_records};
-
-#[cfg(test)]
-mod tests;

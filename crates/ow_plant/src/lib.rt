@@ -26,6 +26,3 @@ pub enum UserEnd {
     Call,
     Fault(Fault),
 }
-
-#[cfg(test)]
-mod tests;
