@@ -8,6 +8,3 @@ pub use frame_table::{page_frame, pages, region};
 pub use ow_base::{Efault, Rights};
 pub use ranges::{can_read, can_write, user_bytes};
 pub use record_layouts::{ProcRec, RecordView};
-
-#[cfg(test)]
-mod tests;

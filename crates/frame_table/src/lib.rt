@@ -12,6 +12,3 @@ pub use laws::{
 pub use ow_base::Rights;
 pub use record_layouts::{ProcRec, RecordView};
 pub use regions::{pages, region};
-
-#[cfg(test)]
-mod tests;

@@ -13,6 +13,3 @@ mod word_store;
 
 pub use live::{Live, live_records};
 pub use word_store::{WordStore, store_area};
-
-#[cfg(test)]
-mod tests;

@@ -28,6 +28,3 @@ pub use worlds::{
     Damage, DamageKind, Ending, FileText, Hurt, KeyByte, Load, PanicLine, PanicRecord, Point,
     Program, Start, World,
 };
-
-#[cfg(test)]
-mod tests;

@@ -101,6 +101,3 @@ pub fn hex8(text: &[u8]) -> Option<u32>
     };
     Some(high * 65536 + low)
 }
-
-#[cfg(test)]
-mod tests;

@@ -43,6 +43,3 @@ pub const fn one_change_breaks_a_seal()
     ensures { (words : List ℕ) (i value : ℕ) → AreWords words → 2 ≤ length words → i < length words → value < 2 ^ 32
         → value ≢ slice_index words i → IsSealed words → IsSealed (slice_set words i value) → ⊥ }
 {}
-
-#[cfg(test)]
-mod tests;

@@ -29,6 +29,3 @@ pub enum UserEnd {
     Call,
     Fault(Fault),
 }
-
-#[cfg(test)]
-mod tests;

@@ -137,6 +137,3 @@ pub const fn hand_overs_are_spelled_once()
     ensures changed { (words : List ℕ) (hand_over : HandOver) → IsHandOver words hand_over → (i value : ℕ) → i < 40 → value < 2 ^ 32
         → value ≢ slice_index words i → (other : HandOver) → IsHandOver (slice_set words i value) other → ⊥ }
 {}
-
-#[cfg(test)]
-mod tests;

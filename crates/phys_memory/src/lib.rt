@@ -12,6 +12,3 @@ mod whole;
 pub use frames::Frames;
 pub use lent::{DeadWords, OwnWords};
 pub use whole::Memory;
-
-#[cfg(test)]
-mod tests;

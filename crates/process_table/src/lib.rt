@@ -7,8 +7,6 @@ mod laws;
 mod patches;
 mod signals;
 mod slots;
-#[cfg(test)]
-mod tests;
 
 pub use choice::{Choice, choose};
 pub use laws::{

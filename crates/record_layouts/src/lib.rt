@@ -46,6 +46,3 @@ pub use sig::{SigRec, signals_are_spelled_once};
 pub use term::{TermRec, terminals_are_spelled_once};
 pub use view::RecordView;
 pub use writer::Writer;
-
-#[cfg(test)]
-mod tests;

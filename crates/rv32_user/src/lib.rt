@@ -7,8 +7,6 @@ mod alignment;
 mod computation;
 mod space;
 mod stepping;
-#[cfg(test)]
-mod tests;
 
 pub use ow_base::{Fault, Regs, Width};
 pub use space::Space;

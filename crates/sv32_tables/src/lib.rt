@@ -4,8 +4,6 @@
 
 mod entry;
 mod laws;
-#[cfg(test)]
-mod tests;
 mod walking;
 
 pub use entry::{leaf, pointer};

@@ -14,6 +14,3 @@ pub use laws::{
 pub use ow_base::{Bank, Now};
 pub use record_layouts::{Patch, RecordView};
 pub use service::Service;
-
-#[cfg(test)]
-mod tests;

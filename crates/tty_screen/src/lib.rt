@@ -6,8 +6,6 @@ mod drawing;
 mod laws;
 mod reading;
 mod ring;
-#[cfg(test)]
-mod tests;
 
 pub use drawing::byte_patch;
 pub use laws::{
