@@ -16,6 +16,7 @@ pub mod Isolated
 pub mod Stepping
 pub mod UserTurns
 pub mod Refusals
+pub mod Decoding
 pub mod BootStores
 pub mod BootRecords
 pub mod BootSets

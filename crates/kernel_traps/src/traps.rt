@@ -143,6 +143,7 @@ fn only_served(plant: &Plant) -> Patch
 }
 
 /// The trap in which the slice of the process in user mode is over: its registers and its pc are saved.
+#[tactic(auto, using(crate::proofs::TrapKinds::has_head, crate::proofs::TrapKinds::user_caught))]
 pub(crate) fn slice_trap(plant: &mut Plant) -> Result<(), Panicked>
     requires sound { IsSound plant.old }
     requires in_user { plant.old.in_user ≡ true }
@@ -161,6 +162,7 @@ pub(crate) fn slice_trap(plant: &mut Plant) -> Result<(), Panicked>
 }
 
 /// The trap of a fault of this cause: it ends the process in user mode.
+#[tactic(auto, using(crate::proofs::TrapKinds::has_head, crate::proofs::TrapKinds::user_caught))]
 pub(crate) fn fault_trap(plant: &mut Plant, cause: u32) -> Result<(), Panicked>
     requires sound { IsSound plant.old }
     requires in_user { plant.old.in_user ≡ true }
@@ -181,6 +183,7 @@ pub(crate) fn fault_trap(plant: &mut Plant, cause: u32) -> Result<(), Panicked>
 }
 
 /// The trap of a call of the process in user mode.
+#[tactic(auto, using(crate::proofs::TrapKinds::has_head, crate::proofs::TrapKinds::user_caught))]
 pub(crate) fn call_trap(plant: &mut Plant) -> Result<(), Panicked>
     requires sound { IsSound plant.old }
     requires in_user { plant.old.in_user ≡ true }
@@ -199,6 +202,7 @@ pub(crate) fn call_trap(plant: &mut Plant) -> Result<(), Panicked>
 }
 
 /// The trap in which the process of a slot makes a further piece of its call.
+#[tactic(auto, using(crate::proofs::TrapKinds::has_head, crate::proofs::TrapKinds::head_of))]
 pub(crate) fn piece_trap(plant: &mut Plant, slot: u32) -> Result<(), Panicked>
     requires sound { IsSound plant.old }
     requires in_kernel { plant.old.in_user ≡ false }
@@ -218,6 +222,7 @@ pub(crate) fn piece_trap(plant: &mut Plant, slot: u32) -> Result<(), Panicked>
 }
 
 /// The trap in which the next signal goes to the process of a slot.
+#[tactic(auto, using(crate::proofs::TrapKinds::has_head, crate::proofs::TrapKinds::head_of))]
 pub(crate) fn signal_trap(plant: &mut Plant, slot: u32) -> Result<(), Panicked>
     requires sound { IsSound plant.old }
     requires in_kernel { plant.old.in_user ≡ false }
@@ -237,6 +242,7 @@ pub(crate) fn signal_trap(plant: &mut Plant, slot: u32) -> Result<(), Panicked>
 }
 
 /// A trap in which no process can run.
+#[tactic(auto, using(crate::proofs::TrapKinds::has_head, crate::proofs::TrapKinds::head_of))]
 pub(crate) fn idle_trap(plant: &mut Plant) -> Result<(), Panicked>
     requires sound { IsSound plant.old }
     requires in_kernel { plant.old.in_user ≡ false }
@@ -254,6 +260,7 @@ pub(crate) fn idle_trap(plant: &mut Plant) -> Result<(), Panicked>
 }
 
 /// The closing trap of a process in user mode: its registers and its pc are saved.
+#[tactic(auto, using(crate::proofs::TrapKinds::has_head, crate::proofs::TrapKinds::user_caught))]
 pub(crate) fn closing_user_trap(plant: &mut Plant) -> Result<(), Panicked>
     requires sound { IsSound plant.old }
     requires in_user { plant.old.in_user ≡ true }
@@ -271,6 +278,7 @@ pub(crate) fn closing_user_trap(plant: &mut Plant) -> Result<(), Panicked>
 }
 
 /// The closing trap where no process is in user mode.
+#[tactic(auto, using(crate::proofs::TrapKinds::has_head, crate::proofs::TrapKinds::head_of))]
 pub(crate) fn closing_trap(plant: &mut Plant) -> Result<(), Panicked>
     requires sound { IsSound plant.old }
     requires in_kernel { plant.old.in_user ≡ false }

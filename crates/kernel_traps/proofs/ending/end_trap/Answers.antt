@@ -1,12 +1,13 @@
 use Rattle.std.proofs.Common.{rules, ◌≡◌, ℕ, OnOk, sym, subst}
 use Rattle.ow_base.specs.Sv32.{WordMap}
+use Rattle.record_layouts.specs.declared.places.RecordId.TheVariants as id
 use Rattle.record_layouts.specs.Held.{Records}
 use Rattle.syscalls.specs.Serving.{IsDoable, plan_of}
 use Rattle.syscalls.specs.declared.service.Service.{Service}
 use Rattle.syscalls.specs.declared.service.Service.TheVariants as service
 use Rattle.ow_plant.specs.State.{PlantState, left_trap}
 use Rattle.intent_store.proofs.Outcomes.{on_ok}
-use Rattle.intent_store.specs.Live.{held_of}
+use Rattle.intent_store.specs.Live.{IsStanding, held_of}
 use Rattle.kernel_traps.specs.Plants.{IsSound}
 use Rattle.kernel_traps.specs.Carrying.{HasRoomFor, IsCarriedOut}
 use Rattle.kernel_traps.proofs.Carried.{IsShort, carried_sound, has_room}
@@ -16,6 +17,11 @@ use Rattle.kernel_traps.proofs.ending.end_trap.Goals as goal
 short : (r : Records) (words : WordMap) (slot : ℕ) (s : Service) → IsDoable r words slot s → IsShort (plan_of s)
 short r words slot (service.Once patch) doable = tt
 short r words slot (service.TtyWrite tty from len patch) doable = (doable.1.terminal, doable.1.most)
+
+pub carry_out-requires-clause-stands : goal.carry_out-requires-clause-stands
+carry_out-requires-clause-stands c =
+    subst IsStanding (sym c.new-live.ensures.plant)
+    (record { armed = c.requires.trap.1.held.armed; decodes = c.requires.trap.1.held.records.complete id.Head tt })
 
 pub carry_out-requires-clause-room : goal.carry_out-requires-clause-room
 carry_out-requires-clause-room c =
