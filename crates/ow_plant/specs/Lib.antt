@@ -1,3 +1,4 @@
 -- The definitions that the plant's contracts cite.
 pub mod Points
+pub mod Past
 pub mod State
