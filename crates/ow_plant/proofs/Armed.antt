@@ -56,7 +56,7 @@ pub IsArmed-returned_to : (s : PlantState) (pid : ℕ) (bank : Bank) (root : ℕ
 IsArmed-returned_to s pid bank root is = record { armed = is.armed; sized = is.sized; few_frames = is.few_frames }
 
 -- the same memory, of a size
-abbrev IsSameSized : (user_frames : ℕ) → Seen → Seen → Type 0
+abbrev pub IsSameSized : (user_frames : ℕ) → Seen → Seen → Type 0
 IsSameSized user_frames a b = (a ≡ b) × IsSized user_frames a.memory
 
 module _ (user_frames : ℕ) where
@@ -78,7 +78,7 @@ module _ (user_frames : ℕ) where
   }
 
   -- an instruction leaves memory of its size
-  steps_sized : (m : Seen) (regs : List ℕ) (pc : ℕ) → IsSized user_frames m.memory → pc < 2 ^ 32
+  pub steps_sized : (m : Seen) (regs : List ℕ) (pc : ℕ) → IsSized user_frames m.memory → pc < 2 ^ 32
       → Follows (IsSameSized user_frames) seen_space seen_space (user_step seen_space regs pc m) (user_step seen_space regs pc m)
   steps_sized m regs pc sized fits = follows (IsSameSized user_frames) seen_space seen_space alike m m regs pc (refl, sized) fits
 

@@ -1,4 +1,5 @@
 -- The definitions that the plant's contracts cite.
 pub mod Dead
 pub mod Points
+pub mod Past
 pub mod State

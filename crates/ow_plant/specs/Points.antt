@@ -1,12 +1,12 @@
 -- The panics that a plant is armed with.
-use Rattle.std.specs.Prelude.{◌≡◌, ℕ, ◌<◌, ◌≤◌, Bool, nat_le, ◌==◌, ◌&&◌, List, [], map, length}
+use Rattle.std.specs.Prelude.{◌≡◌, ℕ, ◌+◌, ◌<◌, ◌≤◌, Bool, true, false, nat_le, ◌==◌, ◌&&◌, ◌||◌, not, if◌then◌else◌, List, [], ◌∷◌, map, length}
 use Rattle.std.specs.List.{All, AllPairs}
 use Rattle.ow_base.specs.declared.worlds.Point.{Point}
 use Rattle.ow_plant.specs.declared.points.PanicPoint.{PanicPoint}
 
--- where they come
+-- where they come, and that none was entered yet
 abbrev pub points_of : List Point → List PanicPoint
-points_of points = map (λ (p : Point). record { trap = p.trap; store = p.store }) points
+points_of points = map (λ (p : Point). record { trap = p.trap; store = p.store; entered = false }) points
 
 -- at most 32, each in a trap of its own, in the order of the traps; boot, which is trap 0, has none. What they damage
 -- and what they refuse of a resurrection is not built yet
@@ -17,10 +17,28 @@ pub record ArePoints (points : List Point) : Type 0 where
   pub no_damages : All (λ (p : Point). p.damages.items ≡ []) points
   pub no_agains : All (λ (p : Point). p.agains.items ≡ []) points
 
--- a point is one of this trap
+-- a point is one of this trap, and its panic was not entered yet
 abbrev pub is_in : (trap : ℕ) → PanicPoint → Bool
-is_in trap point = point.trap == trap
+is_in trap point = (point.trap == trap) && not point.entered
 
 -- a point is one of this trap, in which at least its number of stores is made
 abbrev pub is_past : (trap made : ℕ) → PanicPoint → Bool
-is_past trap made point = (point.trap == trap) && nat_le point.store made
+is_past trap made point = (point.trap == trap) && (not point.entered && nat_le point.store made)
+
+-- the trap of a point has come, and its panic was not entered yet
+abbrev pub has_come : (trap : ℕ) → PanicPoint → Bool
+has_come trap point = nat_le point.trap trap && not point.entered
+
+-- a point after a panic in a trap: it does not come again, nor does one whose trap is over
+abbrev pub entered_by : (trap : ℕ) → PanicPoint → PanicPoint
+entered_by trap point = record point { entered = point.entered || nat_le point.trap trap }
+
+-- how many panics are to come
+abbrev pub coming : List PanicPoint → ℕ
+coming [] = 0
+coming (point ∷ points) = (if point.entered then 0 else 1) + coming points
+
+-- the store that is listed for a trap, 0 where none is
+abbrev pub listed_for : (trap : ℕ) → List PanicPoint → ℕ
+listed_for trap [] = 0
+listed_for trap (point ∷ points) = if point.trap == trap then point.store else listed_for trap points

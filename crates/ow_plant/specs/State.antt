@@ -1,11 +1,11 @@
 -- What contracts see of the plant.
-use Rattle.std.specs.Prelude.{◌≡◌, ℕ, ◌+◌, ◌-◌, ◌*◌, ◌^◌, ◌≤◌, min, Bool, true, false, MatchBool, nat_lt, ◌==◌, ◌||◌, if◌then◌else◌, List, [], ◌∷◌, ◌++◌, Option, Some, None, is_some}
+use Rattle.std.specs.Prelude.{◌≡◌, ℕ, ◌+◌, ◌-◌, ◌*◌, ◌^◌, ◌≤◌, min, Bool, true, false, MatchBool, nat_lt, ◌==◌, ◌||◌, if◌then◌else◌, List, [], ◌∷◌, ◌++◌, map, length, nat_le, Option, Some, None, is_some}
 use Rattle.std.specs.List.{list_any}
 use Rattle.ow_base.specs.Screen.{Screen, blank_screen, drawn}
 use Rattle.ow_base.specs.Sv32.{sv32_space}
 use Rattle.ow_base.specs.UserStep.{Spaces, Stepped, Next, Call, Faulted, user_step}
 use Rattle.sv32_tables.specs.Spaces.{satp_of}
-use Rattle.phys_memory.specs.Memory.{MemoryParts, IsSized, frame_count, words_of, with_word, zeroed}
+use Rattle.phys_memory.specs.Memory.{MemoryParts, IsSized, frame_count, whole, words_of, with_first, with_word, zeroed}
 use Rattle.ow_base.specs.declared.machine.AreaId.{AreaId}
 use Rattle.ow_base.specs.declared.machine.AreaId.TheVariants as area
 use Rattle.ow_base.specs.declared.machine.Bank.{Bank}
@@ -14,7 +14,11 @@ use Rattle.ow_base.specs.declared.machine.Shape.{Shape}
 use Rattle.ow_base.specs.declared.machine.Came.{Came}
 use Rattle.ow_base.specs.declared.machine.Came.TheVariants as came
 use Rattle.ow_base.specs.declared.worlds.PanicRecord.{PanicRecord}
-use Rattle.ow_plant.specs.Points.{is_in, is_past}
+use Rattle.panic_handover.specs.HandOver.{IsHandOver, may_tell_registers, zero_bank}
+use Rattle.panic_handover.specs.declared.hand_over.HandOver.{HandOver}
+use Rattle.ow_plant.specs.Past.{IsRecordOf, PastPanics}
+use Rattle.ow_plant.specs.Points.{coming, entered_by, has_come, is_in, is_past, listed_for}
+use Rattle.ow_plant.specs.declared.past.Told.{Told}
 use Rattle.ow_plant.specs.declared.points.PanicPoint.{PanicPoint}
 use Rattle.ow_plant.specs.declared.UserEnd.{UserEnd}
 use Rattle.ow_plant.specs.declared.UserEnd.TheVariants as end
@@ -52,9 +56,11 @@ pub record PlantState : Type 0 where
   pub tty1 : Device
   pub steps : ℕ
   pub traps : ℕ
-  -- where panics come; no call tells a program
+  -- where panics come, and which of them were entered; no call tells a program
   pub points : List PanicPoint
-  -- stores made in the trap that was begun last, or at boot, and in all
+  -- a panic was entered, and the live area was not set since
+  pub reviving : Bool
+  -- stores made in the trap that was begun last, or at boot, or since the panic of it was entered; and in all
   pub stores : ℕ
   pub all_stores : ℕ
   -- what was refused since the last panic entry: nothing, a store, or the end of a trap. Where it is not nothing no store
@@ -98,6 +104,7 @@ pub record IsReady (shape : Shape) (s : PlantState) : Type 0 where
   pub of_kernel : s.came ≡ came.Kernel
   pub of_no_process : s.trap_pid ≡ 0
   pub of_area : s.live ≡ area.A
+  pub not_reviving : s.reviving ≡ false
   pub no_history : s.history ≡ []
 
 -- a plant that is armed: its memory has the size of its shape
@@ -114,6 +121,19 @@ pub record FitsShape (armed : Bool) (shape : Shape) (memory : MemoryParts) (tty0
   pub few_steps : shape.budget ≤ 2000000
   pub room0 : tty0.room ≡ 16 * shape.budget
   pub room1 : tty1.room ≡ 16 * shape.budget
+
+-- what holds of every plant beside: memory has the size of the shape once it is armed; there is room for the words of
+-- memory at each panic that is to come; and a refusal stands only in a trap that has come to a point
+pub record HasRoom (armed : Bool) (shape : Shape) (memory : MemoryParts) (points : List PanicPoint) (refused : Option Refusal) (traps : ℕ) (past : PastPanics) : Type 0 where
+  pub sized : armed ≡ true → IsSized shape.user_frames memory
+  pub words : armed ≡ true → past.words ≡ 1024 * (257 + 2 * shape.user_frames)
+  pub one_each : coming points ≤ past.room
+  pub due : is_some refused ≡ true → list_any (has_come traps) points ≡ true
+
+-- what holds of every plant
+pub record IsPlant (armed : Bool) (shape : Shape) (memory : MemoryParts) (tty0 tty1 : Terminal) (points : List PanicPoint) (refused : Option Refusal) (traps : ℕ) (past : PastPanics) : Type 0 where
+  pub fits : FitsShape armed shape memory tty0 tty1
+  pub room : HasRoom armed shape memory points refused traps past
 
 -- a refusal stands
 abbrev pub is_refused : PlantState → Bool
@@ -188,6 +208,66 @@ returned_to s pid bank root = record s { bank = bank; in_user = true; user_pid =
 -- a word of memory is set, which is a store
 abbrev pub with_stored : PlantState → (frame word value : ℕ) → PlantState
 with_stored s frame word value = record (counted s) { memory = with_word s.memory frame word value }
+
+-- the process that the trap is of, as a hand-over can tell it: there is none above 256
+abbrev pub handed_pid : PlantState → ℕ
+handed_pid s = if nat_le s.trap_pid 256 then s.trap_pid else 0
+
+-- what is handed over at a panic: the pc and the registers that the processor came with from a program, and else zeros
+abbrev pub handed_over : PlantState → HandOver
+handed_over s = record {
+  trap = s.traps;
+  pid = handed_pid s;
+  came = s.came;
+  bank = if may_tell_registers s.came (handed_pid s) then s.bank else zero_bank;
+}
+
+-- the end of a trap was refused
+abbrev pub is_leave : Option Refusal → Bool
+is_leave (Some refusal.Leave) = true
+is_leave (Some refusal.Store) = false
+is_leave None = false
+
+-- what the record of a panic tells
+abbrev pub told_of : PlantState → Told
+told_of s = record {
+  trap = s.traps;
+  store = s.stores;
+  listed = listed_for s.traps s.points;
+  at_leave = is_leave s.refusal;
+  pid = handed_pid s;
+  area = s.live;
+  tapes = length s.tty0.tape ∷ length s.tty1.tape ∷ [];
+}
+
+-- nothing is seen of a terminal
+abbrev pub blanked : Terminal → Terminal
+blanked t = record t { display = blank_screen }
+
+-- a panic is entered: the hand-over stands in the first words of memory, both displays are blank, and the history has a
+-- record of the panic with the words that memory then has. The refusal is over, the trap runs no more, and the stores of
+-- a resurrection are counted from 0
+pub record EntersPanic (old new : PlantState) : Type 0 where
+  pub words : List ℕ
+  pub entry : PanicRecord
+  pub spelled : IsHandOver words (handed_over old)
+  pub recorded : IsRecordOf (told_of old) (whole (with_first old.memory words)) entry
+  pub after : new ≡ record old {
+    memory = with_first old.memory words;
+    in_user = false;
+    tty0 = blanked old.tty0;
+    tty1 = blanked old.tty1;
+    points = map (entered_by old.traps) old.points;
+    reviving = true;
+    stores = 0;
+    refusal = None;
+    in_trap = false;
+    history = old.history ++ entry ∷ [];
+  }
+
+-- another area is live, which is a store, and ends what a panic began
+abbrev pub with_live : PlantState → AreaId → PlantState
+with_live s area = record (counted s) { live = area; reviving = false }
 
 -- an instruction of the process in user mode, which UserStep says came to this
 abbrev pub StepsAs : PlantState → PlantState → UserEnd → Stepped Seen → Type 0

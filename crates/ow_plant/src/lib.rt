@@ -1,11 +1,12 @@
 //! The machine that a kernel runs on: memory of frames, two terminals, a processor whose user mode sees
 //! memory through page tables, counts of steps, traps and stores, and points at which stores are refused from then
-//! on. It has no disk yet, nothing is typed, and a refusal stands for good.
+//! on. A panic is entered where one was refused. It has no disk yet, and nothing is typed.
 #![tactic(auto)]
 
 mod dead_memory;
 mod displays;
 mod machine;
+mod past;
 mod points;
 mod refusal;
 mod terminals;

@@ -1,11 +1,14 @@
 //! The plant: processor, memory and terminals.
-ghost use Rattle.std.specs.Prelude.{◌≡◌, ℕ, ◌+◌, ◌*◌, ◌^◌, ◌<◌, ◌≤◌, ◌↔◌, true, false, [], None, length, is_some, IsTrue, IsErr, IsNone, IfSome, OnOk, OnErr};
+ghost use Rattle.std.specs.Prelude.{◌≡◌, ◌≢◌, if◌then◌else◌, ℕ, ◌+◌, ◌*◌, ◌^◌, ◌<◌, ◌≤◌, ◌↔◌, true, false, [], None, length, is_some, IsTrue, IsErr, IsNone, IfSome, OnOk, OnErr};
 ghost use Rattle.phys_memory.specs.Memory.{frame_count, words_of};
-ghost use Rattle.ow_plant.specs.Points.{ArePoints, points_of};
-ghost use Rattle.ow_plant.specs.State.{IsReady, TakesUserTurn, returned_to, entered, left_trap, refuses, refuses_leave, first_refusal, store_refused, leave_refused, counted, with_put, with_stored, tty_of, now_of};
+ghost use Rattle.std.specs.List.{list_any};
+ghost use Rattle.ow_plant.specs.Points.{ArePoints, has_come, points_of};
+ghost use Rattle.panic_handover.specs.HandOver.{FitsHandOver, may_tell_registers, zero_bank};
+ghost use Rattle.ow_plant.specs.State.{EntersPanic, IsReady, TakesUserTurn, handed_over, is_leave, is_refused, told_of, with_live, returned_to, entered, left_trap, refuses, refuses_leave, first_refusal, store_refused, leave_refused, counted, with_put, with_stored, tty_of, now_of};
 
 use crate::UserEnd;
 use crate::displays::Display;
+use crate::past::{Past, Told};
 use crate::points::PanicPoints;
 use crate::refusal::Refusal;
 use crate::terminals::Tty;
@@ -13,6 +16,7 @@ use crate::user_memory::UserMemory;
 use ow_base::{
     AreaId, Bank, Came, KeyByte, Now, PanicRecord, Panicked, Point, Regs, Shape, WordSource,
 };
+use panic_handover::HandOver;
 use phys_memory::Memory;
 use rv32_user::{StepEnd, step};
 use std::alloc::{AllocError, Global};
@@ -20,6 +24,9 @@ use std::marker::Model;
 
 /// MODE of the register satp that turns Sv32 on (RISC-V manual, volume II).
 const SV32: u32 = 1 << 31;
+
+/// The words of a frame.
+const FRAME_LENGTH: usize = 1024;
 
 /// How often things were done. Each count stops at its last value.
 #[derive(Clone, Copy)]
@@ -61,16 +68,17 @@ pub struct Plant {
     tty1: Tty,
     counts: Counts,
     points: PanicPoints,
+    reviving: bool,
     refusal: Option<Refusal>,
     in_trap: bool,
     came: Came,
     trap_pid: u32,
     live: AreaId,
-    history: Vec<PanicRecord>,
+    past: Past,
 }
 
 impl Model for Plant {
-    ghost use Rattle.ow_plant.specs.State.{PlantState, FitsShape};
+    ghost use Rattle.ow_plant.specs.State.{PlantState, IsPlant};
 
     ghost Value = { PlantState };
 
@@ -88,6 +96,7 @@ impl Model for Plant {
       steps = p.counts.steps;
       traps = p.counts.traps;
       points = p.points;
+      reviving = p.reviving;
       stores = p.counts.stores;
       all_stores = p.counts.all_stores;
       refusal = p.refusal;
@@ -95,10 +104,10 @@ impl Model for Plant {
       came = p.came;
       trap_pid = p.trap_pid;
       live = p.live;
-      history = p.history.items;
+      history = p.past.entries;
     } };
 
-    ghost invariant = { λ p. FitsShape p.armed p.shape p.seen.memory p.tty0 p.tty1 };
+    ghost invariant = { λ p. IsPlant p.armed p.shape p.seen.memory p.tty0 p.tty1 p.points p.refusal p.counts.traps p.past };
 }
 
 impl Plant {
@@ -134,12 +143,13 @@ impl Plant {
             tty1: Tty::new(alloc),
             counts: NOTHING_DONE,
             points: PanicPoints::none(alloc),
+            reviving: false,
             refusal: None,
             in_trap: false,
             came: Came::Kernel,
             trap_pid: 0,
             live: AreaId::A,
-            history: Vec::new(alloc),
+            past: Past::none(alloc),
         }
     }
 
@@ -170,6 +180,8 @@ impl Plant {
         let memory = Memory::new(alloc, shape.user_frames)?;
         let tty0 = Tty::with_room(alloc, room)?;
         let tty1 = Tty::with_room(alloc, room)?;
+        let words = FRAME_LENGTH * (257 + 2 * shape.user_frames as usize);
+        let past = Past::with_room(alloc, points.len(), words)?;
         let points = PanicPoints::of(alloc, points)?;
         self.armed = true;
         self.shape = shape;
@@ -179,12 +191,13 @@ impl Plant {
         self.tty1 = tty1;
         self.counts = NOTHING_DONE;
         self.points = points;
+        self.reviving = false;
         self.refusal = None;
         self.in_trap = false;
         self.came = Came::Kernel;
         self.trap_pid = 0;
         self.live = AreaId::A;
-        self.history = Vec::new(alloc);
+        self.past = past;
         Ok(())
     }
 
@@ -213,8 +226,24 @@ impl Plant {
         ensures err { OnErr result (self.new ≡ store_refused self.old) }
     {
         self.count_store()?;
-        self.seen.memory.store(frame, word, value);
+        self.seen.set_word(frame, word, value);
         Ok(())
+    }
+
+    /// Whether a store is refused now: then a point of the trap has come.
+    fn refuses_store(&self) -> bool
+        ensures value { result ≡ refuses self.now }
+        ensures due { result ≡ true → list_any (has_come self.now.traps) self.now.points ≡ true }
+    {
+        self.refusal.is_some() || self.points.is_past(self.counts.traps, self.counts.stores)
+    }
+
+    /// Whether the end of the trap is refused now: then a point of it has come.
+    fn refuses_leave(&self) -> bool
+        ensures value { result ≡ refuses_leave self.now }
+        ensures due { result ≡ true → list_any (has_come self.now.traps) self.now.points ≡ true }
+    {
+        self.refusal.is_some() || self.points.has(self.counts.traps)
     }
 
     /// Counts the store that is made next, or refuses it.
@@ -223,7 +252,7 @@ impl Plant {
         ensures ok { OnOk result (self.new ≡ counted self.old) }
         ensures err { OnErr result (self.new ≡ store_refused self.old) }
     {
-        if self.refusal.is_some() || self.points.is_past(self.counts.traps, self.counts.stores) {
+        if self.refuses_store() {
             return self.refuse(Refusal::Store);
         }
         self.counts.stores = self.counts.stores.saturating_add(1);
@@ -232,7 +261,9 @@ impl Plant {
     }
 
     /// Refuses what was asked for, and every store from now on. A refusal that stands stays.
+    #[tactic(auto, using(crate::proofs::Room::plant_refused))]
     fn refuse(&mut self, one: Refusal) -> Result<(), Panicked>
+        requires due { list_any (has_come self.old.traps) self.old.points ≡ true }
         ensures refuses { IsErr result }
         ensures stands { self.new ≡ record self.old { refusal = first_refusal self.old.refusal one } }
     {
@@ -412,7 +443,7 @@ impl Plant {
         ensures ok { OnOk result (self.new ≡ left_trap self.old) }
         ensures err { OnErr result (self.new ≡ leave_refused self.old) }
     {
-        if self.refusal.is_some() || self.points.has(self.counts.traps) {
+        if self.refuses_leave() {
             self.refuse(Refusal::Leave)
         } else {
             self.in_trap = false;
@@ -465,11 +496,108 @@ impl Plant {
         }
     }
 
+    /// What the processor came with into the trap that was begun last, where it came from a program.
+    fn handed_bank(&self, pid: u32) -> Bank
+        ensures bank { result ≡ (if may_tell_registers self.now.came pid then self.now.bank else zero_bank) }
+        ensures kernel { self.now.came ≡ Came.Kernel → result ≡ zero_bank }
+        ensures closing { self.now.came ≡ Came.Closing → pid ≡ 0 → result ≡ zero_bank }
+    {
+        let ran = match self.came {
+            Came::Kernel => false,
+            Came::User | Came::Call => true,
+            Came::Closing => pid != 0,
+        };
+        if ran {
+            self.bank
+        } else {
+            Bank {
+                pc: 0,
+                regs: Regs::new(),
+            }
+        }
+    }
+
+    /// What is handed over where a panic is entered now.
+    fn handed_over(&self) -> HandOver
+        ensures value { result ≡ handed_over self.now }
+        ensures fits { FitsHandOver result }
+    {
+        let pid = if self.trap_pid <= 256 {
+            self.trap_pid
+        } else {
+            0
+        };
+        HandOver {
+            trap: self.counts.traps,
+            pid,
+            came: self.came,
+            bank: self.handed_bank(pid),
+        }
+    }
+
+    /// What the record of a panic tells that is entered now.
+    fn told(&self) -> Told
+        ensures { result ≡ told_of self.now }
+    {
+        let at_leave = match self.refusal {
+            Some(Refusal::Leave) => true,
+            Some(Refusal::Store) | None => false,
+        };
+        Told {
+            trap: self.counts.traps,
+            store: self.counts.stores,
+            listed: self.points.listed_for(self.counts.traps),
+            at_leave,
+            pid: self.handed_over().pid,
+            area: self.live,
+            tapes: [self.tty0.count(), self.tty1.count()],
+        }
+    }
+
+    /// Enters the panic of a kernel to which a store, or the end of a trap, was refused: the hand-over is written to the
+    /// first words of memory, both displays are blanked, and the history takes a record of the panic with the words that
+    /// memory then has. It takes no memory. The refusal is over then.
+    pub fn panic_entry(&mut self)
+        requires armed { self.old.armed ≡ true }
+        requires refused { is_refused self.old ≡ true }
+        requires first { self.old.reviving ≡ false }
+        ensures { EntersPanic self.old self.new }
+    {
+        let handed_over = self.handed_over();
+        let told = self.told();
+        self.seen.set_first(&handed_over.to_words());
+        self.past.add(told, self.seen.memory());
+        self.points.enter(self.counts.traps);
+        self.tty0.blank();
+        self.tty1.blank();
+        self.counts.stores = 0;
+        self.refusal = None;
+        self.in_user = false;
+        self.in_trap = false;
+        self.reviving = true;
+    }
+
+    /// Makes the area live that is not, which ends what a panic began. It is a store, and `Panicked` comes as from
+    /// `store`; then the area that was live still is.
+    pub fn set_live(&mut self, area: AreaId) -> Result<(), Panicked>
+        requires armed { self.old.armed ≡ true }
+        requires reviving { self.old.reviving ≡ true }
+        requires other { area ≢ self.old.live }
+        ensures exact { IsTrue (refuses self.old) ↔ IsErr result }
+        ensures ok { OnOk result (self.new ≡ with_live self.old area) }
+        ensures err { OnErr result (self.new ≡ store_refused self.old) }
+    {
+        self.count_store()?;
+        self.live = area;
+        self.reviving = false;
+        Ok(())
+    }
+
     /// The panics so far.
     pub fn history(&self) -> &[PanicRecord]
         ensures { result.now ≡ self.now.history }
     {
-        &self.history
+        self.past.entries()
     }
 }
 

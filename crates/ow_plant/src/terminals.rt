@@ -1,6 +1,6 @@
 //! A terminal: a tape of the bytes written, and a display.
-ghost use Rattle.std.specs.Prelude.{◌≡◌, ℕ, ◌<◌, length, IfOk};
-ghost use Rattle.ow_plant.specs.State.{silent_device, put_on};
+ghost use Rattle.std.specs.Prelude.{◌≡◌, ℕ, ◌^◌, ◌<◌, length, IfOk};
+ghost use Rattle.ow_plant.specs.State.{silent_device, blanked, put_on};
 
 use crate::displays::Display;
 use std::alloc::{AllocError, Global};
@@ -59,6 +59,21 @@ impl Tty {
         ensures { result.now ≡ self.now.tape }
     {
         self.bytes.as_slice()
+    }
+
+    /// How many bytes are written, where there is room for fewer than 2^32.
+    pub(crate) fn count(&self) -> u32
+        requires { self.now.room < 2 ^ 32 }
+        ensures { result ≡ length self.now.tape }
+    {
+        self.bytes.len() as u32
+    }
+
+    /// Nothing is seen any more. The bytes written stay.
+    pub(crate) fn blank(&mut self)
+        ensures { self.new ≡ blanked self.old }
+    {
+        self.display = Display::new();
     }
 
     /// What is seen.

@@ -90,9 +90,33 @@ fn overwritten(word: u32, k: u32, width: Width, value: u32) -> u32
 }
 
 impl UserMemory {
-    ghost use Rattle.std.specs.Prelude.{IfOk};
+    ghost use Rattle.std.specs.Prelude.{IfOk, length};
     ghost use Rattle.ow_base.specs.Sv32.{read_at, translated};
-    ghost use Rattle.phys_memory.specs.Memory.{words_of};
+    ghost use Rattle.phys_memory.specs.Memory.{frame_count, words_of, with_first, with_word};
+
+    /// All of memory.
+    pub fn memory(&self) -> &Memory
+        ensures { result.now ≡ self.now.memory }
+    {
+        &self.memory
+    }
+
+    /// Sets the word of a frame that is there, at a place below 1,024.
+    pub fn set_word(&mut self, frame: u32, word: u32, value: u32)
+        requires word { word < 1024 }
+        requires frame { frame < frame_count self.old.memory }
+        ensures { self.new ≡ record self.old { memory = with_word self.old.memory frame word value } }
+    {
+        self.memory.store(frame, word, value);
+    }
+
+    /// Sets the first 40 words of the boot frame, which must be there.
+    pub fn set_first(&mut self, words: &[u32; 40])
+        requires { 40 ≤ length self.old.memory.boot }
+        ensures { self.new ≡ record self.old { memory = with_first self.old.memory words.now } }
+    {
+        self.memory.set_first(words);
+    }
 
     /// The value of a width at an address that is a multiple of it, for a fetch or a load.
     #[inline(always)]
