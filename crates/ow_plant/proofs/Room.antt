@@ -11,7 +11,7 @@ use Rattle.phys_memory.specs.Memory.{IsSized, MemoryParts, whole, with_first, wi
 use Rattle.phys_memory.proofs.Words.{IsSized-set, IsSized-zeroed}
 use Rattle.ow_plant.specs.Past.{PastPanics, TakesEntry, no_past}
 use Rattle.ow_plant.specs.Points.{coming, entered_by, has_come, points_of}
-use Rattle.ow_plant.specs.State.{FitsShape, HasRoom, IsPlant, Seen, Terminal, blanked, risen, silent_terminal, seen_space}
+use Rattle.ow_plant.specs.State.{FitsShape, HasRoom, IsPlant, Seen, Terminal, blanked, risen, silent_device, seen_space}
 use Rattle.ow_plant.specs.declared.past.Told.{Told}
 use Rattle.ow_plant.specs.declared.points.PanicPoint.{PanicPoint}
 use Rattle.ow_plant.specs.declared.refusal.Refusal.{Refusal}
@@ -150,7 +150,7 @@ module _ (armed : Bool) (shape : Shape) (m : MemoryParts) (tty0 tty1 : Terminal)
 
 -- a plant is armed
 pub plant_armed : (shape : Shape) (points : List Point) (words : ℕ) → words ≡ 1024 * (257 + 2 * shape.user_frames) → shape.user_frames ≤ 384 → shape.budget ≤ 2000000
-    → IsPlant true shape (zeroed shape.user_frames) (silent_terminal (16 * shape.budget)) (silent_terminal (16 * shape.budget)) (points_of points) None 0 (no_past (length points) words)
+    → IsPlant true shape (zeroed shape.user_frames) (silent_device (16 * shape.budget)) (silent_device (16 * shape.budget)) (points_of points) None 0 (no_past (length points) words)
 plant_armed shape points words all frames steps = record {
   fits = record {
     none_before = λ other. absurd (false≢true (sym other));
