@@ -11,7 +11,7 @@ use Rattle.phys_memory.specs.Memory.{IsSized, MemoryParts, whole, with_first, wi
 use Rattle.phys_memory.proofs.Words.{IsSized-set, IsSized-zeroed}
 use Rattle.ow_plant.specs.Past.{PastPanics, TakesEntry, no_past}
 use Rattle.ow_plant.specs.Points.{coming, entered_by, has_come, points_of}
-use Rattle.ow_plant.specs.State.{FitsShape, HasRoom, IsPlant, Seen, Terminal, blanked, risen, silent_device, seen_space}
+use Rattle.ow_plant.specs.State.{FitsShape, HasRoom, IsPlant, Seen, Device, blanked, risen, silent_device, seen_space}
 use Rattle.ow_plant.specs.declared.past.Told.{Told}
 use Rattle.ow_plant.specs.declared.points.PanicPoint.{PanicPoint}
 use Rattle.ow_plant.specs.declared.refusal.Refusal.{Refusal}
@@ -98,7 +98,7 @@ room_armed shape points words all = record {
 }
 
 -- what holds of a plant that is armed does not ask that it has no frame
-fits_armed : (shape : Shape) (m n : MemoryParts) (armed : Bool) (tty0 tty1 : Terminal) → armed ≡ true → FitsShape armed shape m tty0 tty1 → FitsShape armed shape n tty0 tty1
+fits_armed : (shape : Shape) (m n : MemoryParts) (armed : Bool) (tty0 tty1 : Device) → armed ≡ true → FitsShape armed shape m tty0 tty1 → FitsShape armed shape n tty0 tty1
 fits_armed shape m n armed tty0 tty1 is f = record {
   none_before = λ other. absurd (false≢true (sym other ∙ is));
   few_frames = f.few_frames;
@@ -107,7 +107,7 @@ fits_armed shape m n armed tty0 tty1 is f = record {
   room1 = f.room1;
 }
 
-module _ (armed : Bool) (shape : Shape) (m : MemoryParts) (tty0 tty1 : Terminal) (points : List PanicPoint) (refused : Option Refusal) (traps : ℕ) (past : PastPanics) (is : IsPlant armed shape m tty0 tty1 points refused traps past) where
+module _ (armed : Bool) (shape : Shape) (m : MemoryParts) (tty0 tty1 : Device) (points : List PanicPoint) (refused : Option Refusal) (traps : ℕ) (past : PastPanics) (is : IsPlant armed shape m tty0 tty1 points refused traps past) where
   pub plant_later : (later : ℕ) → traps ≤ later → IsPlant armed shape m tty0 tty1 points refused later past
   plant_later later after = record { fits = is.fits; room = room_later armed shape m points refused traps past is.room later after }
 

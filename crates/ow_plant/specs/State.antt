@@ -131,7 +131,7 @@ pub record HasRoom (armed : Bool) (shape : Shape) (memory : MemoryParts) (points
   pub due : is_some refused ≡ true → list_any (has_come traps) points ≡ true
 
 -- what holds of every plant
-pub record IsPlant (armed : Bool) (shape : Shape) (memory : MemoryParts) (tty0 tty1 : Terminal) (points : List PanicPoint) (refused : Option Refusal) (traps : ℕ) (past : PastPanics) : Type 0 where
+pub record IsPlant (armed : Bool) (shape : Shape) (memory : MemoryParts) (tty0 tty1 : Device) (points : List PanicPoint) (refused : Option Refusal) (traps : ℕ) (past : PastPanics) : Type 0 where
   pub fits : FitsShape armed shape memory tty0 tty1
   pub room : HasRoom armed shape memory points refused traps past
 
@@ -241,7 +241,7 @@ told_of s = record {
 }
 
 -- nothing is seen of a terminal
-abbrev pub blanked : Terminal → Terminal
+abbrev pub blanked : Device → Device
 blanked t = record t { display = blank_screen }
 
 -- a panic is entered: the hand-over stands in the first words of memory, both displays are blank, and the history has a
