@@ -1,19 +1,21 @@
--- A turn where no process is in user mode, by what is chosen.
-use Rattle.std.proofs.Common.{◌≡◌, ◌∙◌, ◌⊎◌, ◌==◌, ◌+◌, ◌<◌, ℕ, true, false, Option, Some, None, Result, Ok, Err, IfOk, inl, inr, refl, sym, ap, subst, arith}
+-- What is next where no process is in user mode, by what is chosen, and what a turn is by its trap.
+use Rattle.std.proofs.Common.{◌≡◌, ◌∙◌, ◌⊎◌, ◌==◌, ◌+◌, ◌<◌, ℕ, true, false, Option, Some, None, is_some, Result, OnOk, inl, inr, refl, sym, ap, subst, arith}
 use Rattle.std.proofs.lemmas.Bool.{cases_Bool}
 use Rattle.std.proofs.lemmas.Bool.Decides.{nat_tests}
 use Rattle.ow_base.specs.declared.machine.Now.{Now}
 use Rattle.phys_memory.specs.Memory.{words_of}
 use Rattle.record_layouts.specs.declared.proc.ProcRec.{ProcRec}
-use Rattle.record_layouts.specs.Unix.Calls.{piece_of}
-use Rattle.record_layouts.specs.Unix.Choice.{deliverable, no_keys}
+use Rattle.record_layouts.specs.declared.traps.Trap.{Trap}
+use Rattle.record_layouts.specs.declared.traps.Trap.TheVariants as trap
+use Rattle.record_layouts.specs.Unix.Choice.{chosen, deliverable, no_keys, returned_as, settled}
 use Rattle.record_layouts.specs.Decode.{call_of, process_of}
 use Rattle.record_layouts.specs.Held.{Records}
 use Rattle.record_layouts.specs.Pages.{is_live}
-use Rattle.record_layouts.specs.Unix.Signals.{signalled}
 use Rattle.record_layouts.specs.Sound.{IsIn}
-use Rattle.record_layouts.specs.Unix.Turn.{idled, turn, turn_at}
-use Rattle.record_layouts.specs.Unix.State.{AtUser, In, Out, Process, Unix}
+use Rattle.record_layouts.specs.Unix.Traps.{after_trap, closing_of, signal_or_piece_of, steps_in, turned_by, user_of}
+use Rattle.record_layouts.specs.Unix.Turn.{closed}
+use Rattle.record_layouts.specs.Unix.State.{CallState, In, Out, Position, Process, Unix}
+use Rattle.record_layouts.proofs.Turning.{turn_is}
 use Rattle.process_table.specs.Choosing.{IsChosen, IsNext, IsRest, IsWork, is_ready, is_ready_one, signal_by, work_of}
 use Rattle.process_table.specs.declared.choice.Choice.{Choice}
 use Rattle.process_table.specs.declared.choice.Choice.TheVariants as choice
@@ -21,15 +23,14 @@ use Rattle.process_table.proofs.Running.{signal_is}
 use Rattle.process_table.proofs.Seats.{one_process}
 use Rattle.ow_plant.specs.State.{PlantState, now_of}
 use Rattle.intent_store.specs.Live.{records_held}
+use Rattle.kernel_traps.specs.Due.{IsSettled, IsTrapNext}
 use Rattle.kernel_traps.specs.Plants.{IsSound, unix_at}
-use Rattle.kernel_traps.specs.Turning.{AllHaveEnded, IsTurn, IsTurned}
-use Rattle.kernel_traps.specs.Traps.{HasPassed, HasSignalIn, IsLiveAs, IsNoPanicNext, IsPieceTrap, IsSignalTrap, IsTrapMade, IsTurnInUser, IsUserTurned}
-use Rattle.kernel_traps.specs.User.{IsOutside, IsReturned}
-use Rattle.kernel_traps.specs.declared.turns.Turn.{Turn}
+use Rattle.kernel_traps.specs.Traps.{IsDue, IsLiveAs, IsTrapMade}
+use Rattle.kernel_traps.specs.Turning.{AllHaveEnded, IsSomeLive, IsTurn}
+use Rattle.kernel_traps.specs.User.{IsOutside, IsReturned, at_process}
 use Rattle.kernel_traps.specs.declared.turns.Turn.TheVariants as turns
 use Rattle.kernel_traps.proofs.TrapKinds.{live_at}
-use Rattle.kernel_traps.proofs.TurnUnix.{chosen_of, idle_turn, none_of, not_ended, piece_turn, rest_tells, return_turn, signal_turn, turned, user_turn_is}
-use Rattle.kernel_traps.proofs.UserServed.{one_live}
+use Rattle.kernel_traps.proofs.TurnUnix.{at_kernel, at_user, chosen_of, chosen_trap, idle_stays, idle_trap, lives, none_of, rest_tells, settled_trap, settles, stays_settled}
 
 -- who is chosen is live
 ready_live : (r : Records) (now : Now) (above slot : ℕ) (process : ProcRec) → r.procs slot ≡ Some process → is_ready r now above slot ≡ true → is_live process ≡ true
@@ -74,55 +75,69 @@ outside_state : (process : ProcRec) → is_live process ≡ true → (process.st
 outside_state process live out = grind (arith, nat_tests, live, out)
 
 -- a step is left where some process is live
-pub left_by : (s : PlantState) → (s.steps < s.shape.budget) ⊎ AllHaveEnded s → (AllHaveEnded s → ⊥) → s.steps < s.shape.budget
+pub not_ended : (s : PlantState) → IsSomeLive s → AllHaveEnded s → ⊥
+not_ended s live ended = let both : false ≡ true = sym ended ∙ live in cc
+
+pub left_by : (s : PlantState) → (s.steps < s.shape.budget) ⊎ AllHaveEnded s → IsSomeLive s → s.steps < s.shape.budget
 left_by s (inl left) live = left
-left_by s (inr ended) live = absurd (live ended)
+left_by s (inr ended) live = absurd (not_ended s live ended)
 
-pub work_live : (s : PlantState) (slot : ℕ) (done : Choice) → IsSound s → IsWork (records_held s) (now_of s) slot done → AllHaveEnded s → ⊥
-work_live s slot done sound is = not_ended s slot is.process sound (work_in (records_held s) (now_of s) slot done is)
+pub work_live : (s : PlantState) (slot : ℕ) (done : Choice) → IsSound s → IsWork (records_held s) (now_of s) slot done → IsSomeLive s
+work_live s slot done sound is = lives s slot is.process sound (work_in (records_held s) (now_of s) slot done is)
 
-pub rest_live : (s : PlantState) → IsSound s → IsRest (records_held s) (now_of s) true → AllHaveEnded s → ⊥
-rest_live s sound is ended =
-    let both : false ≡ true = sym ended ∙ rest_tells s true sound is in
-    cc
+pub rest_live : (s : PlantState) → IsSound s → IsRest (records_held s) (now_of s) true → IsSomeLive s
+rest_live s sound is = rest_tells s true sound is
 
 pub all_ended : (s : PlantState) → IsSound s → IsRest (records_held s) (now_of s) false → AllHaveEnded s
 all_ended s sound is = rest_tells s false sound is
 
--- what the process of a slot is asked for
-pub is_outside : (s : PlantState) (slot : ℕ) → IsWork (records_held s) (now_of s) slot (choice.User slot) → (process : ProcRec) × IsOutside s slot process
-is_outside s slot is =
-    let there = work_in (records_held s) (now_of s) slot (choice.User slot) is in
-    let last = user_last slot (signal_by is.process ((records_held s).sigs slot)) is.process.state is.work in
-    (is.process, record { there = there; outside = outside_state is.process there.live last.1 })
+pub user_lives : (s : PlantState) → IsSound s → s.in_user ≡ true → IsSomeLive s
+user_lives s sound in_user =
+    let (slot, process, runs) = sound.in_user in_user in
+    lives s slot process sound runs.there
 
-pub has_signal : (s : PlantState) (slot : ℕ) → IsWork (records_held s) (now_of s) slot (choice.Signal slot) → HasSignalIn (records_held s) slot
-has_signal s slot is = (
-  is.process,
-  work_in (records_held s) (now_of s) slot (choice.Signal slot) is,
-  signal_first slot (signal_by is.process ((records_held s).sigs slot)) is.process.state is.work,
-)
+-- the process that is chosen, as it is in the Unix
+module _ (s : PlantState) (sound : IsSound s) (in_kernel : s.in_user ≡ false) (slot : ℕ) (done : Choice) (is : IsWork (records_held s) (now_of s) slot done) where
+  abbrev in_unix : Process
+  in_unix = process_of (records_held s) (words_of s.memory) slot is.process
 
--- a signal is taken
-pub signal_turned : (s new : PlantState) (slot : ℕ) → IsSound s → s.in_user ≡ false → IsWork (records_held s) (now_of s) slot (choice.Signal slot)
-    → IsSignalTrap s new slot → IsTurned s new × (new.traps ≡ s.traps + 1)
-signal_turned s new slot sound in_kernel is (process, there, (p, live, (signal, goes, made))) =
-    turned s new (signalled (unix_at s) process.pid p signal) made
-    (signal_turn s process.pid p signal in_kernel (chosen_of s slot process sound in_kernel is.chosen there.there) live goes)
+  there : IsIn (records_held s) slot is.process
+  there = work_in (records_held s) (now_of s) slot done is
 
--- what a chosen process is in the Unix
-no_signal : (s : PlantState) (slot : ℕ) (process : ProcRec) (p : Process) → IsSound s → s.in_user ≡ false → IsIn (records_held s) slot process → IsLiveAs s process.pid p
-    → signal_by process ((records_held s).sigs slot) ≡ None → deliverable p ≡ None
-no_signal s slot process p sound in_kernel is live none =
-    let (signals, there, pid) = sound.held.records.numbered.signals slot process is in
-    let one : p ≡ process_of (records_held s) (words_of s.memory) slot process = one_live s process.pid p _ live (live_at s slot process sound in_kernel is) in
-    ap deliverable one ∙ (signal_is (records_held s) (words_of s.memory) slot process signals there ∙ none)
+  live : IsLiveAs s is.process.pid in_unix
+  live = live_at s slot is.process sound in_kernel there
 
-its_call : (s : PlantState) (slot : ℕ) (process : ProcRec) (p : Process) → IsSound s → s.in_user ≡ false → IsIn (records_held s) slot process → IsLiveAs s process.pid p → p.call ≡ call_of process
-unfolding process_of
-its_call s slot process p sound in_kernel is live =
-    let one : p ≡ process_of (records_held s) (words_of s.memory) slot process = one_live s process.pid p _ live (live_at s slot process sound in_kernel is) in
-    ap (λ (q : Process). q.call) one
+  one : chosen no_keys (unix_at s) ≡ Some is.process.pid
+  one = chosen_of s slot is.process sound in_kernel is.chosen is.there
+
+  goes : (signal : Option ℕ) → signal_by is.process ((records_held s).sigs slot) ≡ signal → deliverable in_unix ≡ signal
+  goes signal by =
+      let (signals, has, own) = sound.held.records.numbered.signals slot is.process there in
+      signal_is (records_held s) (words_of s.memory) slot is.process signals has ∙ by
+
+  its_call : (call : CallState) → call_of is.process ≡ call → in_unix.call ≡ call
+  unfolding process_of
+  its_call call by = by
+
+  its_state : settled no_keys (unix_at s) ≡ returned_as (unix_at s) is.process.pid (signal_by is.process ((records_held s).sigs slot)) (call_of is.process)
+  its_state = settles s in_kernel is.process.pid in_unix one live _ _ (goes _ refl) (its_call _ refl)
+
+  -- a trap that is the turn of the plant as it is
+  trap_next : (signal : Option ℕ) → signal_by is.process ((records_held s).sigs slot) ≡ signal → settled no_keys (unix_at s) ≡ unix_at s
+      → steps_in (signal_or_piece_of is.process.pid signal) ≡ 1 → IsDue s (signal_or_piece_of is.process.pid signal) → IsTrapNext s s (signal_or_piece_of is.process.pid signal)
+  trap_next signal by stays step due =
+      let settled : IsSettled s s = stays_settled s sound (lives s slot is.process sound there) stays in
+      record { settled = settled; trap = settled_trap s s settled ∙ chosen_trap s in_kernel is.process.pid in_unix one live signal (goes signal by); step = step; due = due }
+
+pub signal_next : (s : PlantState) (slot : ℕ) (process : ProcRec) (signal : ℕ) → IsSound s → s.in_user ≡ false → IsWork (records_held s) (now_of s) slot (choice.Signal slot)
+    → (records_held s).procs slot ≡ Some process → signal_by process ((records_held s).sigs slot) ≡ Some signal → IsTrapNext s s (trap.Signal process.pid signal)
+signal_next s slot process signal sound in_kernel is reads read =
+    let one : is.process ≡ process = one_process (records_held s) slot is.process process is.there reads in
+    let by : signal_by is.process ((records_held s).sigs slot) ≡ Some signal = ap (λ (p : ProcRec). signal_by p ((records_held s).sigs slot)) one ∙ read in
+    subst (λ (p : ProcRec). IsTrapNext s s (trap.Signal p.pid signal)) one
+    (trap_next s sound in_kernel slot (choice.Signal slot) is (Some signal) by
+    (its_state s sound in_kernel slot (choice.Signal slot) is ∙ ap (λ (held : Option ℕ). returned_as (unix_at s) is.process.pid held (call_of is.process)) by) refl
+    (record { mode = in_kernel; slot = slot; had = (is.process, record { seat = (work_in (records_held s) (now_of s) slot (choice.Signal slot) is, refl); suits = by }) }))
 
 in_its_call : (process : ProcRec) → (process.state == 2) ≡ true → call_of process ≡ In process.call process.done
 in_its_call process calls = rw calls refl
@@ -130,88 +145,106 @@ in_its_call process calls = rw calls refl
 out_of_call : (process : ProcRec) → (process.state == 2) ≡ false → call_of process ≡ Out
 out_of_call process out = rw out refl
 
--- a piece is made
-pub piece_turned : (s new : PlantState) (slot : ℕ) → IsSound s → s.in_user ≡ false → IsWork (records_held s) (now_of s) slot (choice.Piece slot)
-    → IsPieceTrap s new slot → IsTurned s new × (new.traps ≡ s.traps + 1)
-piece_turned s new slot sound in_kernel is (process, there, (p, live, made)) =
-    let one : is.process ≡ process = one_process (records_held s) slot is.process process is.there there.there in
-    let work : choice.Piece slot ≡ work_of slot (signal_by process ((records_held s).sigs slot)) process.state =
-    subst (λ (q : ProcRec). choice.Piece slot ≡ work_of slot (signal_by q ((records_held s).sigs slot)) q.state) one is.work in
-    let last = piece_then slot (signal_by process ((records_held s).sigs slot)) process.state work in
-    turned s new (piece_of (unix_at s) process.pid p) made
-    (piece_turn s process.pid p process.call process.done in_kernel (chosen_of s slot process sound in_kernel is.chosen there.there) live
-    (no_signal s slot process p sound in_kernel there live last.0) (its_call s slot process p sound in_kernel there live ∙ in_its_call process last.1))
+pub piece_next : (s : PlantState) (slot : ℕ) (process : ProcRec) → IsSound s → s.in_user ≡ false → IsWork (records_held s) (now_of s) slot (choice.Piece slot)
+    → (records_held s).procs slot ≡ Some process → IsTrapNext s s (trap.Piece process.pid)
+piece_next s slot process sound in_kernel is reads =
+    let (none, calls) = piece_then slot (signal_by is.process ((records_held s).sigs slot)) is.process.state is.work in
+    let state : is.process.state ≡ 2 = grind (arith, nat_tests, calls) in
+    subst (λ (p : ProcRec). IsTrapNext s s (trap.Piece p.pid)) (one_process (records_held s) slot is.process process is.there reads)
+    (trap_next s sound in_kernel slot (choice.Piece slot) is None none
+    (its_state s sound in_kernel slot (choice.Piece slot) is ∙ (λ i. returned_as (unix_at s) is.process.pid (none i) (in_its_call is.process calls i))) refl
+    (record { mode = in_kernel; slot = slot; had = (is.process, record { seat = (work_in (records_held s) (now_of s) slot (choice.Piece slot) is, refl); suits = state }) }))
+
+-- each slot has a record
+held_there : (held : Option ProcRec) → is_some held ≡ true → (process : ProcRec) × (held ≡ Some process)
+held_there (Some process) some = (process, refl)
+held_there None some = cc
+
+record_in : (s : PlantState) → IsSound s → (process : ProcRec) × ((records_held s).procs 0 ≡ Some process)
+record_in s sound = held_there ((records_held s).procs 0) (sound.held.records.complete.procs 0 (omega arith))
 
 -- no process can run
-pub idle_turned : (s new : PlantState) → IsSound s → s.in_user ≡ false → IsRest (records_held s) (now_of s) true → IsTrapMade s new (idled (unix_at s)) 1
-    → IsTurned s new × (new.traps ≡ s.traps + 1)
-idle_turned s new sound in_kernel is made = turned s new (idled (unix_at s)) made (idle_turn s in_kernel (none_of s sound in_kernel is.0))
+pub idle_next : (s : PlantState) → IsSound s → s.in_user ≡ false → IsRest (records_held s) (now_of s) true → IsTrapNext s s trap.Idle
+idle_next s sound in_kernel is =
+    let none = none_of s sound in_kernel is.0 in
+    let settled : IsSettled s s = stays_settled s sound (rest_live s sound is) (idle_stays s in_kernel none) in
+    let (process, there) = record_in s sound in
+    record {
+      settled = settled;
+      trap = settled_trap s s settled ∙ idle_trap s in_kernel none;
+      step = refl;
+      due = record { mode = in_kernel; slot = 0; had = (process, record { seat = (refl, there); suits = tt }) };
+    }
 
--- control goes to a process, and its turn follows
-pub left_returned : (s new : PlantState) (slot : ℕ) → IsReturned s slot new → s.steps < s.shape.budget → new.steps < new.shape.budget
-left_returned s new slot is left = subst (λ (n : PlantState). n.steps < n.shape.budget) (sym is.loaded) left
+-- control goes to a process
+pub is_outside : (s : PlantState) (slot : ℕ) → IsWork (records_held s) (now_of s) slot (choice.User slot) → (process : ProcRec) × IsOutside s slot process
+is_outside s slot is =
+    let there = work_in (records_held s) (now_of s) slot (choice.User slot) is in
+    let last = user_last slot (signal_by is.process ((records_held s).sigs slot)) is.process.state is.work in
+    (is.process, record { there = there; outside = outside_state is.process there.live last.1 })
 
-returned_turn : (s between : PlantState) (slot : ℕ) → IsSound s → s.in_user ≡ false → IsWork (records_held s) (now_of s) slot (choice.User slot) → IsReturned s slot between
-    → turn_at no_keys between.shape.quantum (unix_at between) (AtUser between.user_pid between.slice) ≡ turn s.shape (unix_at s)
-returned_turn s between slot sound in_kernel own is =
-    let pid = is.process.pid in
-    let one : own.process ≡ is.process = one_process (records_held s) slot own.process is.process own.there is.there.there in
-    let work : choice.User slot ≡ work_of slot (signal_by is.process ((records_held s).sigs slot)) is.process.state =
-    subst (λ (q : ProcRec). choice.User slot ≡ work_of slot (signal_by q ((records_held s).sigs slot)) q.state) one own.work in
-    let last = user_last slot (signal_by is.process ((records_held s).sigs slot)) is.process.state work in
-    let p = process_of (records_held s) (words_of s.memory) slot is.process in
-    let live : IsLiveAs s pid p = live_at s slot is.process sound in_kernel is.there in
-    ap (λ (n : PlantState). turn_at no_keys n.shape.quantum (unix_at between) (AtUser n.user_pid n.slice)) is.loaded
-    ∙ (ap (λ (u : Unix). turn_at no_keys s.shape.quantum u (AtUser pid 0)) is.unix
-    ∙ return_turn s pid p in_kernel (chosen_of s slot is.process sound in_kernel own.chosen is.there.there) live
-    (no_signal s slot is.process p sound in_kernel is.there live last.0) (its_call s slot is.process p sound in_kernel is.there live ∙ out_of_call is.process last.1))
+pub returned_settled : (s at : PlantState) (slot : ℕ) → IsSound s → s.in_user ≡ false → IsWork (records_held s) (now_of s) slot (choice.User slot) → IsReturned s slot at → IsSound at → IsSettled s at
+returned_settled s at slot sound in_kernel own is sound_at =
+    let pid : own.process.pid ≡ is.process.pid = ap (λ (p : ProcRec). p.pid) (one_process (records_held s) slot own.process is.process own.there is.there.there) in
+    let (none, out) = user_last slot (signal_by own.process ((records_held s).sigs slot)) own.process.state own.work in
+    record {
+      how = inr (in_kernel, (slot, is));
+      sound = sound_at;
+      unix = is.unix ∙ sym (its_state s sound in_kernel slot (choice.User slot) own
+          ∙ ((λ i. returned_as (unix_at s) own.process.pid (none i) (out_of_call own.process out i)) ∙ ap (at_process (unix_at s)) pid));
+      live = lives s slot is.process sound is.there;
+      steps = ap (λ (n : PlantState). n.steps) is.loaded;
+      traps = ap (λ (n : PlantState). n.traps) is.loaded;
+      same = record {
+        shape = ap (λ (n : PlantState). n.shape) is.loaded;
+        points = ap (λ (n : PlantState). n.points) is.loaded;
+        live = ap (λ (n : PlantState). n.live) is.loaded;
+        history = ap (λ (n : PlantState). n.history) is.loaded;
+      };
+    }
 
-then_turned : (s between new : PlantState) (slot : ℕ) → IsSound s → s.in_user ≡ false → IsWork (records_held s) (now_of s) slot (choice.User slot) → IsReturned s slot between
-    → IsUserTurned between new → IsTurned s new
-then_turned s between new slot sound in_kernel own is made = record {
-  sound = made.sound;
-  turn = made.turn ∙ returned_turn s between slot sound in_kernel own is;
-  steps = made.steps ∙ ap (λ (n : PlantState). n.steps + 1) is.loaded;
-  same = record {
-    shape = made.same.shape ∙ ap (λ (n : PlantState). n.shape) is.loaded;
-    points = made.same.points ∙ ap (λ (n : PlantState). n.points) is.loaded;
-    live = made.same.live ∙ ap (λ (n : PlantState). n.live) is.loaded;
-    history = made.same.history ∙ ap (λ (n : PlantState). n.history) is.loaded;
-  };
-}
+-- a trap that was next is made
+pub trap_turned : (s at new : PlantState) (t : Trap) → IsTrapNext s at t → IsTrapMade at new (after_trap (unix_at at) t) (steps_in t) → IsTurn s new turns.Trap
+trap_turned s at new t is made = (
+  record {
+    sound = made.sound;
+    turn = made.unix ∙ (ap (λ (u : Unix). after_trap u t) is.settled.unix ∙ sym (turn_is s.shape (unix_at s) ∙ ap (turned_by (settled no_keys (unix_at s))) is.trap));
+    steps = made.steps ∙ (λ i. is.settled.steps i + is.step i);
+    same = record {
+      shape = made.same.shape ∙ is.settled.same.shape;
+      points = made.same.points ∙ is.settled.same.points;
+      live = made.same.live ∙ is.settled.same.live;
+      history = made.same.history ∙ is.settled.same.history;
+    };
+  },
+  made.traps ∙ ap (λ (n : ℕ). n + 1) is.settled.traps,
+)
 
-returned_by : (s between new : PlantState) (slot : ℕ) (made : Turn) → IsSound s → s.in_user ≡ false → IsWork (records_held s) (now_of s) slot (choice.User slot) → IsReturned s slot between
-    → IsTurnInUser between new made → IsTurn s new made
-returned_by s between new slot turns.Step sound in_kernel own is made = (then_turned s between new slot sound in_kernel own is made.0, made.1 ∙ ap (λ (n : PlantState). n.traps) is.loaded)
-returned_by s between new slot turns.Trap sound in_kernel own is made = (then_turned s between new slot sound in_kernel own is made.0, made.1 ∙ ap (λ (n : PlantState). n.traps + 1) is.loaded)
-returned_by s between new slot turns.AllEnded sound in_kernel own is made = absurd made
+-- control has gone to a process, which is in user mode then
+pub left_returned : (s at : PlantState) (slot : ℕ) → IsReturned s slot at → s.steps < s.shape.budget → at.steps < at.shape.budget
+left_returned s at slot is left = subst (λ (n : PlantState). n.steps < n.shape.budget) (sym is.loaded) left
 
-pub returned_turned : {E : Type 0} (r : Result Turn E) (s between new : PlantState) (slot : ℕ) → IsSound s → s.in_user ≡ false
-    → IsWork (records_held s) (now_of s) slot (choice.User slot) → IsReturned s slot between → IfOk r (IsTurnInUser between new) → IfOk r (IsTurn s new)
-returned_turned (Ok made) s between new slot sound in_kernel is returned turned = returned_by s between new slot made sound in_kernel is returned turned
-returned_turned (Err e) s between new slot sound in_kernel is returned turned = tt
+pub user_returned : (s at : PlantState) (slot : ℕ) → IsReturned s slot at → at.in_user ≡ true
+user_returned s at slot is = ap (λ (n : PlantState). n.in_user) is.loaded
 
--- and no panic was to come in the trap that was made
-passed_by : (s between : PlantState) (slot : ℕ) (made : Turn) → IsReturned s slot between → HasPassed between made → HasPassed s made
-passed_by s between slot turns.Step is passed = tt
-passed_by s between slot turns.Trap is passed = subst IsNoPanicNext is.loaded passed
-passed_by s between slot turns.AllEnded is passed = tt
-
-pub returned_passed : {E : Type 0} (r : Result Turn E) (s between : PlantState) (slot : ℕ) → IsReturned s slot between → IfOk r (HasPassed between) → IfOk r (HasPassed s)
-returned_passed (Ok made) s between slot is passed = passed_by s between slot made is passed
-returned_passed (Err e) s between slot is passed = tt
-
--- in user mode some process is live
-pub user_not_ended : (s : PlantState) → IsSound s → s.in_user ≡ true → AllHaveEnded s → ⊥
-user_not_ended s sound in_user =
+-- the closing trap may come
+pub user_closing : (s : PlantState) (pid : ℕ) → IsSound s → s.in_user ≡ true → pid ≡ s.user_pid → IsDue s (trap.Closing (Some pid))
+user_closing s pid sound in_user same =
     let (slot, process, runs) = sound.in_user in_user in
-    not_ended s slot process sound runs.there
+    record { mode = (in_user, sym same); slot = slot; had = (process, record { seat = (runs.there, runs.pid ∙ sym same); suits = runs.outside }) }
 
-by_user : (s new : PlantState) (made : Turn) → s.in_user ≡ true → IsTurnInUser s new made → IsTurn s new made
-by_user s new turns.Step in_user is = (record { sound = is.0.sound; turn = is.0.turn ∙ sym (user_turn_is s in_user); steps = is.0.steps; same = is.0.same }, is.1)
-by_user s new turns.Trap in_user is = (record { sound = is.0.sound; turn = is.0.turn ∙ sym (user_turn_is s in_user); steps = is.0.steps; same = is.0.same }, is.1)
-by_user s new turns.AllEnded in_user is = absurd is
+pub kernel_closing : (s : PlantState) → IsSound s → s.in_user ≡ false → IsDue s (trap.Closing None)
+kernel_closing s sound in_kernel =
+    let (process, there) = record_in s sound in
+    record { mode = in_kernel; slot = 0; had = (process, record { seat = (refl, there); suits = tt }) }
 
-pub turned_in_user : {E : Type 0} (r : Result Turn E) (s new : PlantState) → s.in_user ≡ true → IfOk r (IsTurnInUser s new) → IfOk r (IsTurn s new)
-turned_in_user (Ok made) s new in_user is = by_user s new made in_user is
-turned_in_user (Err e) s new in_user is = tt
+pub user_closing_is : (s : PlantState) (pid : ℕ) → s.in_user ≡ true → pid ≡ s.user_pid → trap.Closing (Some pid) ≡ closing_of (unix_at s)
+user_closing_is s pid in_user same = ap (λ (n : ℕ). trap.Closing (Some n)) same ∙ sym (ap (λ (p : Position). trap.Closing (user_of p)) (at_user s in_user))
+
+pub kernel_closing_is : (s : PlantState) → s.in_user ≡ false → trap.Closing None ≡ closing_of (unix_at s)
+kernel_closing_is s in_kernel = sym (ap (λ (p : Position). trap.Closing (user_of p)) (at_kernel s in_kernel))
+
+pub closed_by : {E : Type 0} (r : Result (Unit {0}) E) (s new : PlantState) (t : Trap) → t ≡ closing_of (unix_at s)
+    → OnOk r (IsTrapMade s new (after_trap (unix_at s) t) (steps_in t)) → OnOk r (IsTrapMade s new (closed (unix_at s)) 0)
+unfolding after_trap
+closed_by r s new t same made = subst (λ (t : Trap). OnOk r (IsTrapMade s new (after_trap (unix_at s) t) (steps_in t))) same made

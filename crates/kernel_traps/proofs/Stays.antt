@@ -6,6 +6,8 @@ use Rattle.std.proofs.lemmas.Bool.Decides.{nat_tests}
 use Rattle.std.proofs.lemmas.Grind.{common_steps}
 use Rattle.ow_base.specs.Sv32.{WordMap, byte_of, word_or_zero}
 use Rattle.ow_base.specs.declared.machine.Rights.{Rights}
+use Rattle.phys_memory.specs.Memory.{words_of}
+use Rattle.record_layouts.specs.declared.memory_map.MemoryMap.{MemoryMap}
 use Rattle.record_layouts.specs.declared.proc.ProcRec.{ProcRec}
 use Rattle.record_layouts.specs.Unix.State.{Process, in_use}
 use Rattle.record_layouts.specs.Held.{Records, beside}
@@ -105,3 +107,7 @@ eight_if slot read process there = elim (cases_Bool (nat_lt slot 16)) [
 pub eight_held : (s : PlantState) (slot : ℕ) (process : ProcRec) → (records_held s).procs slot ≡ Some process → length process.descs ≡ 8
 unfolding records_of records_in
 eight_held s slot process there = eight_if slot _ process there
+
+-- a view of a plant is of the records that are held
+pub view_is : (s source : PlantState) (map : MemoryMap) → source ≡ s → map ≡ map_of s → records_of map (words_of source.memory) ≡ records_held s
+view_is s source map same is = λ i. records_of (is i) (words_of (same i).memory)

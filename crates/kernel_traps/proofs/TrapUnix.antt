@@ -1,33 +1,33 @@
 -- What a plant stands for once the plan of a trap is carried out and the trap has ended.
-use Rattle.std.proofs.Common.{◌≡◌, ◌∙◌, ◌==◌, ◌+◌, ◌-◌, ◌^◌, ◌<◌, ◌≤◌, ℕ, zero, suc, false, List, length, Option, Some, None, IfSome, refl, sym, ap, arith}
+use Rattle.std.proofs.Common.{◌≡◌, ◌∙◌, ◌==◌, ◌+◌, ◌^◌, ◌<◌, ◌≤◌, ℕ, zero, suc, false, List, length, Option, Some, None, IfSome, refl, sym, ap, subst, arith}
 use Rattle.std.proofs.lemmas.Bool.{cases_Bool}
 use Rattle.std.proofs.Common.{inl, inr}
 use Rattle.ow_base.specs.Pages.{Pages, bytes_at}
-use Rattle.ow_base.specs.declared.machine.Came.{Came}
 use Rattle.phys_memory.specs.Memory.{words_of}
 use Rattle.record_layouts.specs.declared.memory_map.MemoryMap.{MemoryMap}
 use Rattle.record_layouts.specs.declared.proc.ProcRec.{ProcRec}
 use Rattle.record_layouts.specs.declared.term.TermRec.{TermRec}
-use Rattle.record_layouts.specs.declared.patch.PatchItem.{PatchItem}
-use Rattle.record_layouts.specs.Held.{Held, Records, beside, with_items}
+use Rattle.record_layouts.specs.Held.{Held, Records, beside}
 use Rattle.record_layouts.specs.Decode.{InKernel, unix_of}
+use Rattle.record_layouts.specs.Unix.Traps.{steps_in}
 use Rattle.record_layouts.specs.Unix.State.{Unix}
+use Rattle.record_layouts.specs.declared.traps.Trap.{Trap}
 use Rattle.syscalls.specs.declared.service.Service.{Service}
 use Rattle.syscalls.specs.declared.service.Service.TheVariants as service
 use Rattle.syscalls.specs.Done.{IsDone}
 use Rattle.syscalls.specs.Planned.{Planned, PlanOnce, PlanWrite, pages_in}
 use Rattle.syscalls.specs.Serving.{IsDoable, plan_of}
-use Rattle.ow_plant.specs.State.{PlantState, entered, left_trap, tty_of}
+use Rattle.ow_plant.specs.State.{PlantState, left_trap, tty_of}
 use Rattle.intent_store.specs.Live.{held_of, map_of, records_held, rest_of}
 use Rattle.kernel_traps.specs.Plants.{IsInTrap, IsOfDevice, IsSound, context_of, tapes_of, unix_at}
 use Rattle.kernel_traps.specs.Putting.{with_puts}
 use Rattle.kernel_traps.specs.Carrying.{IsCarriedOut, bytes_of}
 use Rattle.kernel_traps.specs.Ending.{IsEnded}
 use Rattle.kernel_traps.specs.Turning.{IsSameMachine}
-use Rattle.kernel_traps.specs.Traps.{IsTrapMade}
+use Rattle.kernel_traps.specs.Traps.{IsTrapMade, begun_by}
 use Rattle.kernel_traps.proofs.Stays.{map_held, room_held, unix_same}
 use Rattle.kernel_traps.proofs.Done.{done as write_done}
-use Rattle.kernel_traps.proofs.Entering.{MayTrap, begins}
+use Rattle.kernel_traps.proofs.Entering.{MayTrap, begins, steps_begun, traps_begun}
 
 -- what stays of a plant while a plan is carried out
 pub record IsCarrier (old new : PlantState) : Type 0 where
@@ -145,56 +145,26 @@ same_machine s b new same is = record {
   history = is.history ∙ same.history;
 }
 
-made_by : (s b new : PlantState) (slot made : ℕ) (plan : Planned) (after : Unix) → b.in_user ≡ false → b.steps ≡ s.steps + made → b.traps ≡ s.traps + 1 → IsSameMachine s b
-    → ((done : PlantState) → IsCarriedOut b slot plan (held_of done)
-    → unix_of (records_held done) (words_of b.memory) (tapes_of done) InKernel (s.steps + made) (s.traps + 1) ≡ after)
-    → IsEnded b slot plan new → IsSound new → IsTrapMade s new after made
-made_by s b new slot made plan after kernel steps traps same law (done, out, left) sound =
-    let is : IsCarrier b done = carrier b done slot plan out in
-    let machine : IsSameMachine s (left_trap done) = same_machine s b done same is in
+-- a trap is made: the state is the one that its plan makes of the records and tapes
+pub trap_made : (s new : PlantState) (t : Trap) (slot : ℕ) (process : ProcRec) (x : Service) (after : Unix) → MayTrap s t
+    → (records_held s).procs slot ≡ Some process → IsDoable (records_held s) (words_of s.memory) slot x
+    → ((done : Records) (tapes : ℕ → List ℕ) → IsDone (records_held s) (words_of s.memory) (tapes_of s) slot process (plan_of x) done tapes
+    → unix_of done (words_of s.memory) tapes InKernel (s.steps + steps_in t) (s.traps + 1) ≡ after)
+    → IsEnded (begun_by s t) slot (plan_of x) new → IsSound new → IsTrapMade s new after (steps_in t)
+trap_made s new t slot process x after may there doable law (done, out, left) sound =
+    let b = begun_by s t in
+    let is : IsCarrier b done = carrier b done slot (plan_of x) out in
+    let steps = steps_begun s t may in
+    let traps = traps_begun s t may in
+    let same : IsSameMachine s (left_trap done) = same_machine s b done (record { shape = refl; points = refl; live = refl; history = refl }) is in
+    let served = service_done b done slot s.steps process x (begins s t may) may.most there doable out in
     let unix : unix_at (left_trap done) ≡ after =
-    unix_left b done is kernel
-    ∙ (ap (λ (n : ℕ). unix_of (records_held done) (words_of b.memory) (tapes_of done) InKernel n b.traps) steps
-    ∙ (ap (λ (n : ℕ). unix_of (records_held done) (words_of b.memory) (tapes_of done) InKernel (s.steps + made) n) traps ∙ law done out)) in
+    unix_left b done is refl
+    ∙ ((λ i. unix_of (records_held done) (words_of s.memory) (tapes_of done) InKernel (steps i) (traps i)) ∙ law (records_held done) (tapes_of done) served) in
     record {
       sound = sound;
       unix = ap (λ (p : PlantState). unix_at p) left ∙ unix;
       steps = ap (λ (p : PlantState). p.steps) left ∙ (is.steps ∙ steps);
       traps = ap (λ (p : PlantState). p.traps) left ∙ (is.traps ∙ traps);
-      same = record {
-        shape = ap (λ (p : PlantState). p.shape) left ∙ machine.shape;
-        points = ap (λ (p : PlantState). p.points) left ∙ machine.points;
-        live = ap (λ (p : PlantState). p.live) left ∙ machine.live;
-        history = ap (λ (p : PlantState). p.history) left ∙ machine.history;
-      };
+      same = subst (IsSameMachine s) (sym left) same;
     }
-
-pub one_step : (s : PlantState) (how : Came) (pid : ℕ) → MayTrap s how → (entered s how pid).steps ≡ s.steps + 1
-one_step s how pid may = omega (arith, may.step, may.left, may.most)
-
-pub one_trap : (s : PlantState) (how : Came) (pid : ℕ) → s.traps < 2 ^ 32 - 2 → (entered s how pid).traps ≡ s.traps + 1
-one_trap s how pid few = omega (arith, few)
-
-pub same_entered : (s : PlantState) (how : Came) (pid : ℕ) → IsSameMachine s (entered s how pid)
-same_entered s how pid = record { shape = refl; points = refl; live = refl; history = refl }
-
--- a trap of a process, which is a step
-pub trap_made : (s new : PlantState) (how : Came) (pid slot : ℕ) (process : ProcRec) (x : Service) (after : Unix) → MayTrap s how
-    → (records_held s).procs slot ≡ Some process → IsDoable (records_held s) (words_of s.memory) slot x
-    → ((done : Records) (tapes : ℕ → List ℕ) → IsDone (records_held s) (words_of s.memory) (tapes_of s) slot process (plan_of x) done tapes
-    → unix_of done (words_of s.memory) tapes InKernel (s.steps + 1) (s.traps + 1) ≡ after)
-    → IsEnded (entered s how pid) slot (plan_of x) new → IsSound new → IsTrapMade s new after 1
-trap_made s new how pid slot process x after may there doable law ended settled =
-    made_by s (entered s how pid) new slot 1 (plan_of x) after refl (one_step s how pid may) (one_trap s how pid may.few) (same_entered s how pid)
-    (λ done out. law (records_held done) (tapes_of done)
-    (service_done (entered s how pid) done slot s.steps process x (begins s how pid may) may.most there doable out))
-    ended settled
-
--- a trap whose records are set at once
-pub once_made : (s b new : PlantState) (slot made : ℕ) (items : List PatchItem) (after : Unix) → b.in_user ≡ false → b.steps ≡ s.steps + made → b.traps ≡ s.traps + 1 → IsSameMachine s b
-    → unix_of (with_items (records_held b) items) (words_of b.memory) (tapes_of b) InKernel (s.steps + made) (s.traps + 1) ≡ after
-    → IsEnded b slot (PlanOnce items) new → IsSound new → IsTrapMade s new after made
-once_made s b new slot made items after kernel steps traps same law ended sound =
-    made_by s b new slot made (PlanOnce items) after kernel steps traps same
-    (λ done out. ap (λ (h : Held PlantState). unix_of h.records (words_of b.memory) (tapes_of h.rest) InKernel (s.steps + made) (s.traps + 1)) out ∙ law)
-    ended sound

@@ -1,27 +1,26 @@
--- What a turn of the Unix is, by what the kernel does.
-use Rattle.std.proofs.Common.{◌≡◌, ◌∙◌, ◌==◌, ◌+◌, ℕ, zero, suc, nat_lt, Bool, true, false, [], ◌∷◌, slice_index, Option, Some, None, is_some, inl, inr, refl, sym, ap}
+-- What the turn of a plant is in the Unix: whether it is settled, and which trap is next.
+use Rattle.std.proofs.Common.{◌≡◌, ◌∙◌, ◌==◌, ◌+◌, ℕ, zero, suc, Bool, true, false, [], ◌∷◌, slice_index, Option, Some, None, is_some, inl, inr, refl, sym, ap}
 use Rattle.std.proofs.lemmas.Bool.{cases_Bool}
-use Rattle.ow_base.specs.UserStep.{Call, Faulted}
 use Rattle.ow_base.specs.declared.machine.Bank.{Bank}
-use Rattle.ow_base.specs.declared.machine.Fault.{Fault}
 use Rattle.phys_memory.specs.Memory.{words_of}
 use Rattle.record_layouts.specs.declared.proc.ProcRec.{ProcRec}
-use Rattle.record_layouts.specs.Unix.Calls.{ended_as, call_entered, piece_of, trapped}
+use Rattle.record_layouts.specs.declared.traps.Trap.TheVariants as trap
 use Rattle.record_layouts.specs.Unix.Choice.{Keys, chosen, deliverable, has_live_process, is_any_live, live_or, no_keys, returned_as, settled_to, settled, settled_at, settled_on}
 use Rattle.record_layouts.specs.Decode.{Context, InKernel, InUser, process_at, processes_of, unix_of, with_bank}
-use Rattle.record_layouts.specs.Unix.Signals.{signalled}
 use Rattle.record_layouts.specs.Sound.{IsIn, AreSound}
-use Rattle.record_layouts.specs.Unix.Turn.{idled, served_if_live, served_or_idle, signal_or_piece, step_of, stepped, turn, turn_at, user_turn}
-use Rattle.record_layouts.specs.Unix.State.{AtKernel, AtUser, In, Out, Process, Unix, most_pids}
+use Rattle.record_layouts.specs.Unix.Traps.{signal_or_piece_of, trap_at, trap_if_live, trap_of_turn, trap_or_idle}
+use Rattle.record_layouts.specs.Unix.Turn.{turn, turn_at}
+use Rattle.record_layouts.specs.Unix.State.{AtKernel, AtUser, CallState, Process, Unix, most_pids}
 use Rattle.process_table.specs.Choosing.{IsChosen, IsNone, IsRest, keys_of}
 use Rattle.process_table.specs.Slots.{has_such, is_live_one}
 use Rattle.process_table.proofs.Chosen.{any_live_is, chosen_is, none_chosen}
 use Rattle.process_table.proofs.Holding.{such_found}
 use Rattle.ow_plant.specs.State.{PlantState, now_of}
 use Rattle.intent_store.specs.Live.{records_held}
+use Rattle.kernel_traps.specs.Due.{IsSettled}
 use Rattle.kernel_traps.specs.Plants.{IsSound, context_of, tapes_of, unix_at}
-use Rattle.kernel_traps.specs.Turning.{AllHaveEnded, IsTurned}
-use Rattle.kernel_traps.specs.Traps.{IsLiveAs, IsTrapMade}
+use Rattle.kernel_traps.specs.Traps.{IsLiveAs}
+use Rattle.kernel_traps.specs.Turning.{IsSomeLive}
 use Rattle.kernel_traps.proofs.TrapKinds.{kernel_unix}
 
 -- nothing is typed
@@ -42,88 +41,53 @@ pub at_user : (s : PlantState) → s.in_user ≡ true → (unix_at s).position �
 unfolding unix_at unix_of
 at_user s in_user = rw in_user refl
 
--- a turn in user mode
-pub user_turn_is : (s : PlantState) → s.in_user ≡ true → turn s.shape (unix_at s) ≡ turn_at no_keys s.shape.quantum (unix_at s) (AtUser s.user_pid s.slice)
-unfolding turn settled
-user_turn_is s in_user =
-    let u = unix_at s in
-    let at = at_user s in_user in
-    ap (λ (v : Unix). turn_at no_keys s.shape.quantum v v.position) (ap (settled_at no_keys u) at) ∙ ap (turn_at no_keys s.shape.quantum u) at
+-- the turn of a plant that is settled, and its trap
+pub settled_turn : (s at : PlantState) → IsSettled s at → turn s.shape (unix_at s) ≡ turn_at no_keys at.shape.quantum (unix_at at) (unix_at at).position
+unfolding turn
+settled_turn s at is = sym (λ i. turn_at no_keys (is.same.shape i).quantum (is.unix i) (is.unix i).position)
 
-pub slice_turn : (s : PlantState) (p : Process) → IsLiveAs s s.user_pid p → nat_lt s.slice s.shape.quantum ≡ false
-    → trapped (unix_at s) s.user_pid ≡ turn_at no_keys s.shape.quantum (unix_at s) (AtUser s.user_pid s.slice)
-unfolding turn_at user_turn
-slice_turn s p live over = rw (live, over) refl
+pub settled_trap : (s at : PlantState) → IsSettled s at → trap_of_turn no_keys s.shape (unix_at s) ≡ trap_at no_keys at.shape.quantum (unix_at at) (unix_at at).position
+unfolding trap_of_turn
+settled_trap s at is = sym (λ i. trap_at no_keys (is.same.shape i).quantum (is.unix i) (is.unix i).position)
 
-pub call_turn : (s : PlantState) (p : Process) → IsLiveAs s s.user_pid p → nat_lt s.slice s.shape.quantum ≡ true → step_of p ≡ Call
-    → call_entered (unix_at s) s.user_pid p ≡ turn_at no_keys s.shape.quantum (unix_at s) (AtUser s.user_pid s.slice)
-unfolding turn_at user_turn stepped
-call_turn s p live within calls = rw (live, within, calls) refl
+-- a plant that is settled as it is
+pub stays_settled : (s : PlantState) → IsSound s → IsSomeLive s → settled no_keys (unix_at s) ≡ unix_at s → IsSettled s s
+stays_settled s sound live stays = record {
+  how = inl refl;
+  sound = sound;
+  unix = sym stays;
+  live = live;
+  steps = refl;
+  traps = refl;
+  same = record { shape = refl; points = refl; live = refl; history = refl };
+}
 
-pub fault_turn : (s : PlantState) (p : Process) (fault : Fault) → IsLiveAs s s.user_pid p → nat_lt s.slice s.shape.quantum ≡ true → step_of p ≡ Faulted fault
-    → ended_as (trapped (unix_at s) s.user_pid) s.user_pid p (0x200 + fault.cause) ≡ turn_at no_keys s.shape.quantum (unix_at s) (AtUser s.user_pid s.slice)
-unfolding turn_at user_turn stepped
-fault_turn s p fault live within faults = rw (live, within, faults) refl
-
--- a turn of a process that is chosen in the kernel
-settles : (u : Unix) (pid : ℕ) (p : Process) → u.position ≡ AtKernel → chosen no_keys u ≡ Some pid → u.processes pid ≡ Some p → settled no_keys u ≡ returned_as u pid (deliverable p) p.call
+pub user_stays : (s : PlantState) → s.in_user ≡ true → settled no_keys (unix_at s) ≡ unix_at s
 unfolding settled
-settles u pid p at one live = ap (settled_at no_keys u) at ∙ (ap (settled_on u) one ∙ ap (settled_to u pid) live)
+user_stays s in_user = ap (settled_at no_keys (unix_at s)) (at_user s in_user)
 
-stays_turn : (quantum : ℕ) (u : Unix) (pid : ℕ) (p : Process) → u.position ≡ AtKernel → chosen no_keys u ≡ Some pid → u.processes pid ≡ Some p → settled no_keys u ≡ u
-    → turn_at no_keys quantum (settled no_keys u) (settled no_keys u).position ≡ signal_or_piece u pid p (deliverable p)
-unfolding turn_at
-stays_turn quantum u pid p at one live same =
-    ap (λ (v : Unix). turn_at no_keys quantum v v.position) same
-    ∙ (ap (turn_at no_keys quantum u) at ∙ (ap (served_or_idle u) one ∙ ap (served_if_live u pid) live))
+-- a process that is chosen in the kernel, to which a signal goes, or which is in a call, or outside
+module _ (s : PlantState) (in_kernel : s.in_user ≡ false) (pid : ℕ) (p : Process) (one : chosen no_keys (unix_at s) ≡ Some pid) (live : IsLiveAs s pid p) where
+  pub settles : (signal : Option ℕ) (call : CallState) → deliverable p ≡ signal → p.call ≡ call → settled no_keys (unix_at s) ≡ returned_as (unix_at s) pid signal call
+  unfolding settled
+  settles signal call goes calls =
+      let u = unix_at s in
+      ap (settled_at no_keys u) (at_kernel s in_kernel) ∙ (ap (settled_on u) one ∙ (ap (settled_to u pid) live ∙ (λ i. returned_as u pid (goes i) (calls i))))
 
-signal_stays : (u : Unix) (pid : ℕ) (p : Process) (signal : ℕ) → deliverable p ≡ Some signal → returned_as u pid (deliverable p) p.call ≡ u
-signal_stays u pid p signal goes = rw goes refl
-
-call_stays : (u : Unix) (pid : ℕ) (p : Process) (number done : ℕ) → deliverable p ≡ None → p.call ≡ In number done → returned_as u pid (deliverable p) p.call ≡ u
-call_stays u pid p number done none call = rw (none, call) refl
-
-pub signal_turn : (s : PlantState) (pid : ℕ) (p : Process) (signal : ℕ) → s.in_user ≡ false → chosen no_keys (unix_at s) ≡ Some pid → IsLiveAs s pid p → deliverable p ≡ Some signal
-    → signalled (unix_at s) pid p signal ≡ turn s.shape (unix_at s)
-unfolding turn
-signal_turn s pid p signal in_kernel one live goes =
-    let at = at_kernel s in_kernel in
-    sym (stays_turn s.shape.quantum (unix_at s) pid p at one live (settles (unix_at s) pid p at one live ∙ signal_stays (unix_at s) pid p signal goes)
-    ∙ ap (signal_or_piece (unix_at s) pid p) goes)
-
-pub piece_turn : (s : PlantState) (pid : ℕ) (p : Process) (number done : ℕ) → s.in_user ≡ false → chosen no_keys (unix_at s) ≡ Some pid → IsLiveAs s pid p → deliverable p ≡ None
-    → p.call ≡ In number done → piece_of (unix_at s) pid p ≡ turn s.shape (unix_at s)
-unfolding turn
-piece_turn s pid p number done in_kernel one live none call =
-    let at = at_kernel s in_kernel in
-    sym (stays_turn s.shape.quantum (unix_at s) pid p at one live (settles (unix_at s) pid p at one live ∙ call_stays (unix_at s) pid p number done none call)
-    ∙ ap (signal_or_piece (unix_at s) pid p) none)
-
--- control goes to a process outside a call
-abbrev pub at_process : Unix → (pid : ℕ) → Unix
-at_process u pid = record u { position = AtUser pid 0; last_pid = pid }
-
-goes_to : (u : Unix) (pid : ℕ) (p : Process) → deliverable p ≡ None → p.call ≡ Out → returned_as u pid (deliverable p) p.call ≡ at_process u pid
-goes_to u pid p none out = rw (none, out) refl
-
-pub return_turn : (s : PlantState) (pid : ℕ) (p : Process) → s.in_user ≡ false → chosen no_keys (unix_at s) ≡ Some pid → IsLiveAs s pid p → deliverable p ≡ None → p.call ≡ Out
-    → turn_at no_keys s.shape.quantum (at_process (unix_at s) pid) (AtUser pid 0) ≡ turn s.shape (unix_at s)
-unfolding turn
-return_turn s pid p in_kernel one live none out =
-    sym (ap (λ (v : Unix). turn_at no_keys s.shape.quantum v v.position) (settles (unix_at s) pid p (at_kernel s in_kernel) one live ∙ goes_to (unix_at s) pid p none out))
+  pub chosen_trap : (signal : Option ℕ) → deliverable p ≡ signal → trap_at no_keys s.shape.quantum (unix_at s) (unix_at s).position ≡ Some (signal_or_piece_of pid signal)
+  unfolding trap_at
+  chosen_trap signal goes =
+      let u = unix_at s in
+      ap (trap_at no_keys s.shape.quantum u) (at_kernel s in_kernel) ∙ (ap (trap_or_idle u) one ∙ (ap (trap_if_live pid) live ∙ ap (λ (held : Option ℕ). Some (signal_or_piece_of pid held)) goes))
 
 -- no process can run
-pub idle_turn : (s : PlantState) → s.in_user ≡ false → chosen no_keys (unix_at s) ≡ None → idled (unix_at s) ≡ turn s.shape (unix_at s)
-unfolding turn turn_at settled
-idle_turn s in_kernel none =
-    let u = unix_at s in
-    let at = at_kernel s in_kernel in
-    let same : settled no_keys u ≡ u = ap (settled_at no_keys u) at ∙ ap (settled_on u) none in
-    sym (ap (λ (v : Unix). turn_at no_keys s.shape.quantum v v.position) same ∙ (ap (turn_at no_keys s.shape.quantum u) at ∙ ap (served_or_idle u) none))
+pub idle_stays : (s : PlantState) → s.in_user ≡ false → chosen no_keys (unix_at s) ≡ None → settled no_keys (unix_at s) ≡ unix_at s
+unfolding settled
+idle_stays s in_kernel none = ap (settled_at no_keys (unix_at s)) (at_kernel s in_kernel) ∙ ap (settled_on (unix_at s)) none
 
--- a trap is a turn
-pub turned : (s new : PlantState) (after : Unix) → IsTrapMade s new after 1 → after ≡ turn s.shape (unix_at s) → IsTurned s new × (new.traps ≡ s.traps + 1)
-turned s new after made is = (record { sound = made.sound; turn = made.unix ∙ is; steps = made.steps; same = made.same }, made.traps)
+pub idle_trap : (s : PlantState) → s.in_user ≡ false → chosen no_keys (unix_at s) ≡ None → trap_at no_keys s.shape.quantum (unix_at s) (unix_at s).position ≡ Some trap.Idle
+unfolding trap_at
+idle_trap s in_kernel none = ap (trap_at no_keys s.shape.quantum (unix_at s)) (at_kernel s in_kernel) ∙ ap (trap_or_idle (unix_at s)) none
 
 -- some process is live, so not all have ended
 live_by : (one other : Option Process) (some others : Bool) → is_some one ≡ is_some other → some ≡ others → live_or one some ≡ live_or other others
@@ -155,11 +119,8 @@ any_live s sound =
     live_same (processes_of (records_held s) (words_of s.memory) (context_of s)) (processes_of (records_held s) (words_of s.memory) InKernel) 1 most_pids (user_lives s (context_of s))
     ∙ any_live_is (records_held s) (words_of s.memory) (tapes_of s) s.steps s.traps sound
 
-pub not_ended : (s : PlantState) (slot : ℕ) (process : ProcRec) → IsSound s → IsIn (records_held s) slot process → AllHaveEnded s → ⊥
-not_ended s slot process sound is ended =
-    let lives : has_such (records_held s) is_live_one ≡ true = such_found (records_held s) is_live_one slot is.within (ap is_live_one is.there ∙ is.live) in
-    let both : false ≡ true = sym ended ∙ (any_live s sound.held.records ∙ lives) in
-    cc
+pub lives : (s : PlantState) (slot : ℕ) (process : ProcRec) → IsSound s → IsIn (records_held s) slot process → IsSomeLive s
+lives s slot process sound is = any_live s sound.held.records ∙ such_found (records_held s) is_live_one slot is.within (ap is_live_one is.there ∙ is.live)
 
 -- what is chosen by the records
 pub chosen_of : (s : PlantState) (slot : ℕ) (process : ProcRec) → IsSound s → s.in_user ≡ false → IsChosen (records_held s) (now_of s) slot → (records_held s).procs slot ≡ Some process

@@ -1,37 +1,65 @@
--- A turn in user mode, by what the process came to.
-use Rattle.std.proofs.Common.{◌≡◌, ◌∙◌, ◌+◌, ℕ, Some, sym, subst}
-use Rattle.ow_base.specs.declared.machine.Fault.{Fault}
-use Rattle.record_layouts.specs.Unix.Calls.{ended_as, call_entered, trapped}
+-- A turn in user mode: the trap that is next by what the process came to.
+use Rattle.std.proofs.Common.{◌≡◌, ◌∙◌, ◌+◌, ℕ, true, Some, refl, sym, ap, subst}
 use Rattle.record_layouts.specs.Unix.Choice.{no_keys}
-use Rattle.record_layouts.specs.Unix.Turn.{turn_at}
-use Rattle.record_layouts.specs.Unix.State.{AtUser, Process, Unix}
+use Rattle.record_layouts.specs.Unix.Traps.{trap_at}
+use Rattle.record_layouts.specs.Unix.Turn.{turn, turn_at}
+use Rattle.record_layouts.specs.Unix.State.{Process}
+use Rattle.record_layouts.specs.declared.proc.ProcRec.{ProcRec}
+use Rattle.record_layouts.specs.declared.traps.Trap.TheVariants as trap
 use Rattle.ow_plant.specs.State.{PlantState}
+use Rattle.ow_plant.specs.declared.UserEnd.{UserEnd}
 use Rattle.ow_plant.specs.declared.UserEnd.TheVariants as end
-use Rattle.kernel_traps.specs.Plants.{unix_at}
-use Rattle.kernel_traps.specs.Traps.{IsLiveAs, IsTrapMade, IsTrapOf, IsUserTurned}
-use Rattle.kernel_traps.specs.User.{IsUserTurn}
-use Rattle.kernel_traps.proofs.TurnUnix.{call_turn, fault_turn, slice_turn}
+use Rattle.kernel_traps.specs.Plants.{IsRunning, unix_at}
+use Rattle.kernel_traps.specs.Due.{IsNextInUser, IsNextTurn, IsSettled}
+use Rattle.kernel_traps.specs.Traps.{IsDue}
+use Rattle.kernel_traps.specs.User.{IsTurnOf, IsUserTurn}
+use Rattle.kernel_traps.specs.declared.turns.Next.{Next}
+use Rattle.kernel_traps.specs.declared.turns.Next.TheVariants as next
+use Rattle.kernel_traps.proofs.TurnUnix.{at_user, settled_trap, settled_turn}
 
-user_turned : (s new : PlantState) (after : Unix) → IsTrapMade s new after 1 → after ≡ turn_at no_keys s.shape.quantum (unix_at s) (AtUser s.user_pid s.slice) → IsUserTurned s new × (new.traps ≡ s.traps + 1)
-user_turned s new after made is = (record { sound = made.sound; turn = made.unix ∙ is; steps = made.steps; same = made.same }, made.traps)
+-- what the turn of the process in user mode comes to
+abbrev pub next_by : (pid : ℕ) → UserEnd → Next
+next_by pid end.Next = next.Step
+next_by pid end.Slice = next.Trap (trap.Slice pid)
+next_by pid end.Call = next.Trap (trap.Entry pid)
+next_by pid (end.Fault fault) = next.Trap (trap.Fault pid fault.cause)
 
-pub one_live : (s : PlantState) (pid : ℕ) (p q : Process) → IsLiveAs s pid p → IsLiveAs s pid q → p ≡ q
-one_live s pid p q one other = let both : Some p ≡ Some q = sym one ∙ other in cc
+next_of : (s new : PlantState) (process : Process) (slot : ℕ) (its : ProcRec) (result : UserEnd) → s.in_user ≡ true → (unix_at s).processes s.user_pid ≡ Some process → IsRunning s slot its
+    → IsTurnOf s process new result → IsNextInUser s new (next_by s.user_pid result)
+unfolding trap_at
+next_of s new process slot its end.Next in_user live runs is = is
+next_of s new process slot its end.Slice in_user live runs (same, over) =
+    (same, rw (live, over) refl, refl, record { mode = (in_user, refl); slot = slot; had = (its, record { seat = (runs.there, runs.pid); suits = runs.outside }) })
+next_of s new process slot its end.Call in_user live runs (same, within, calls) =
+    (same, rw (live, within, calls) refl, refl, record { mode = (in_user, refl); slot = slot; had = (its, record { seat = (runs.there, runs.pid); suits = runs.outside }) })
+next_of s new process slot its (end.Fault fault) in_user live runs (same, within, faults, word) =
+    (same, rw (live, within, faults) refl, refl, record { mode = (in_user, refl); slot = slot; had = (its, record { seat = (runs.there, runs.pid); suits = (runs.outside, word) }) })
 
-pub slice_served : (s between new : PlantState) → IsUserTurn s between end.Slice → IsTrapMade between new (trapped (unix_at between) between.user_pid) 1 → IsUserTurned s new × (new.traps ≡ s.traps + 1)
-slice_served s between new (process, runs, (same, over)) made =
-    user_turned s new (trapped (unix_at s) s.user_pid) (subst (λ (t : PlantState). IsTrapMade t new (trapped (unix_at t) t.user_pid) 1) same made) (slice_turn s process runs.live over)
+pub next_in : (s new : PlantState) (pid : ℕ) (result : UserEnd) → s.in_user ≡ true → pid ≡ s.user_pid → IsUserTurn s new result → IsNextInUser s new (next_by pid result)
+next_in s new pid result in_user same (process, is, turn) =
+    subst (λ (pid : ℕ). IsNextInUser s new (next_by pid result)) (sym same) (next_of s new process is.slot is.its result in_user is.live is.runs turn)
 
-pub call_served : (s between new : PlantState) → IsUserTurn s between end.Call → IsTrapOf between new between.user_pid (call_entered (unix_at between) between.user_pid) → IsUserTurned s new × (new.traps ≡ s.traps + 1)
-call_served s between new (process, runs, (same, within, calls)) of =
-    let (p, live, made) = subst (λ (t : PlantState). IsTrapOf t new t.user_pid (call_entered (unix_at t) t.user_pid)) same of in
-    let one : p ≡ process = one_live s s.user_pid p process live runs.live in
-    user_turned s new (call_entered (unix_at s) s.user_pid process) (subst (λ (q : Process). IsTrapMade s new (call_entered (unix_at s) s.user_pid q) 1) one made) (call_turn s process runs.live within calls)
-
-pub fault_served : (s between new : PlantState) (fault : Fault) → IsUserTurn s between (end.Fault fault)
-    → IsTrapOf between new between.user_pid (λ p. ended_as (trapped (unix_at between) between.user_pid) between.user_pid p (0x200 + fault.cause)) → IsUserTurned s new × (new.traps ≡ s.traps + 1)
-fault_served s between new fault (process, runs, (same, within, faults, word)) of =
-    let (p, live, made) = subst (λ (t : PlantState). IsTrapOf t new t.user_pid (λ p. ended_as (trapped (unix_at t) t.user_pid) t.user_pid p (0x200 + fault.cause))) same of in
-    let one : p ≡ process = one_live s s.user_pid p process live runs.live in
-    user_turned s new (ended_as (trapped (unix_at s) s.user_pid) s.user_pid process (0x200 + fault.cause))
-    (subst (λ (q : Process). IsTrapMade s new (ended_as (trapped (unix_at s) s.user_pid) s.user_pid q (0x200 + fault.cause)) 1) one made) (fault_turn s process fault runs.live within faults)
+-- a settled plant whose process makes its turn
+pub next_then : (s at new : PlantState) (which : Next) → IsSettled s at → at.in_user ≡ true → IsNextInUser at new which → IsNextTurn s new which
+next_then s at new next.Step is in_user made = (
+  is.live,
+  record {
+    sound = made.sound;
+    turn = made.turn ∙ sym (settled_turn s at is ∙ ap (turn_at no_keys at.shape.quantum (unix_at at)) (at_user at in_user));
+    steps = made.steps ∙ ap (λ (n : ℕ). n + 1) is.steps;
+    same = record {
+      shape = made.same.shape ∙ is.same.shape;
+      points = made.same.points ∙ is.same.points;
+      live = made.same.live ∙ is.same.live;
+      history = made.same.history ∙ is.same.history;
+    };
+  },
+  made.traps ∙ is.traps,
+)
+next_then s at new (next.Trap t) is in_user (same, comes, step, due) = record {
+  settled = subst (IsSettled s) (sym same) is;
+  trap = settled_trap s at is ∙ (ap (trap_at no_keys at.shape.quantum (unix_at at)) (at_user at in_user) ∙ comes);
+  step = step;
+  due = subst (λ (n : PlantState). IsDue n t) (sym same) due;
+}
+next_then s at new next.AllEnded is in_user none = absurd none

@@ -16,3 +16,4 @@ pub mod BootPages
 pub mod BootTables
 pub mod BootState
 pub mod Traps
+pub mod Due

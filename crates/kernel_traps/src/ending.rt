@@ -4,7 +4,7 @@ ghost use Rattle.phys_memory.specs.Memory.{words_of};
 ghost use Rattle.intent_store.specs.Live.{may_refuse, records_held};
 ghost use Rattle.syscalls.specs.Serving.{IsDoable, plan_of};
 ghost use Rattle.kernel_traps.specs.Plants.{IsInTrap, IsSound};
-ghost use Rattle.kernel_traps.specs.Ending.{CanBeServed, EndsTrap, HasStep, IsEnded, MayBeLeftOfTrap};
+ghost use Rattle.kernel_traps.specs.Ending.{CanBeServed, EndsTrap, HasStep, IsEnded, MayBeLeftOfPlan};
 
 use crate::services::carry_out;
 use intent_store::Live;
@@ -21,7 +21,7 @@ pub(crate) fn end_trap(plant: &mut Plant, slot: u32, service: &Service) -> Resul
     requires slot { slot < 16 }
     ensures ok { OnOk result (IsEnded plant.old slot (plan_of service.now) plant.new) }
     ensures sound { OnOk result (IsSound plant.new) }
-    ensures err { OnErr result (MayBeLeftOfTrap plant.old slot (plan_of service.now) plant.new) }
+    ensures err { OnErr result (MayBeLeftOfPlan plant.old slot (plan_of service.now) plant.new) }
     ensures passed { OnOk result (may_refuse plant.old ≡ false) }
     ensures allowed { OnErr result (may_refuse plant.old ≡ true) }
 {

@@ -1,12 +1,14 @@
 //! User mode: control goes to a process, and the process makes instructions.
 ghost use Rattle.std.specs.Prelude.{◌≡◌, ◌<◌, true, false};
 ghost use Rattle.record_layouts.specs.declared.proc.ProcRec.{ProcRec};
+ghost use Rattle.kernel_traps.specs.Due.{IsNextInUser};
 ghost use Rattle.kernel_traps.specs.Plants.{IsSound};
 ghost use Rattle.kernel_traps.specs.User.{IsOutside, IsReturned, IsUserTurn};
 
+use crate::turns::Next;
 use intent_store::live_records;
 use ow_plant::{Bank, Plant, UserEnd};
-use record_layouts::RecordView;
+use record_layouts::{RecordView, Trap};
 
 // The first frame of an area with tables, of which each slot has three.
 const FIRST_ROOT: u32 = 16;
@@ -31,7 +33,7 @@ pub(crate) fn return_to(plant: &mut Plant, slot: u32)
 
 // One turn of the process in user mode: an instruction, or what ends in a trap.
 #[tactic(auto, using(crate::proofs::UserTurns::takes_turn))]
-pub(crate) fn user_step(plant: &mut Plant) -> UserEnd
+fn user_step(plant: &mut Plant) -> UserEnd
     requires sound { IsSound plant.old }
     requires in_user { plant.old.in_user ≡ true }
     requires budget { plant.old.steps < plant.old.shape.budget }
@@ -39,4 +41,23 @@ pub(crate) fn user_step(plant: &mut Plant) -> UserEnd
 {
     plant.fits_shape();
     plant.user_step()
+}
+
+// The turn of the process in user mode: an instruction is made, or a trap is next.
+pub(crate) fn next_in_user(plant: &mut Plant) -> Next
+    requires sound { IsSound plant.old }
+    requires in_user { plant.old.in_user ≡ true }
+    requires budget { plant.old.steps < plant.old.shape.budget }
+    ensures { IsNextInUser plant.old plant.new result }
+{
+    let pid = plant.user_pid();
+    match user_step(plant) {
+        UserEnd::Next => Next::Step,
+        UserEnd::Slice => Next::Trap(Trap::Slice(pid)),
+        UserEnd::Call => Next::Trap(Trap::Entry(pid)),
+        UserEnd::Fault(fault) => Next::Trap(Trap::Fault {
+            pid,
+            cause: fault.cause,
+        }),
+    }
 }

@@ -16,4 +16,5 @@ pub use laws::{
 pub use ow_base::{Bank, Now};
 pub use patches::{end_process, save_bank, take_signal};
 pub use record_layouts::{Patch, RecordView};
+pub use signals::signal_of;
 pub use slots::{free_slot, next_pid};

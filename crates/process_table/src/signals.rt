@@ -53,7 +53,7 @@ pub(crate) fn next_signal(process: &ProcRec, signals: &SigRec) -> Option<u32>
 }
 
 /// The signal that goes next to the process of a slot, by its record of signals.
-pub(crate) fn signal_of<V: RecordView>(view: &V, slot: u32, process: &ProcRec) -> Option<u32>
+pub fn signal_of<V: RecordView>(view: &V, slot: u32, process: &ProcRec) -> Option<u32>
     requires { slot < 16 }
     ensures { result ≡ signal_by process.now ((V.records view.now).sigs slot) }
 {

@@ -1,6 +1,7 @@
--- Lemmas on records of any kind, on lists that are laid one behind the other, on bytes in words, on how the records
--- with lists are written, on how records are read, on the ranges of an intent, and on what these and single stores make
--- of the records of an area.
+-- Lemmas on turns and their traps, on records of any kind, on lists that are laid one behind the other, on bytes in
+-- words, on how the records with lists are written, on how records are read, on the ranges of an intent, and on what
+-- these and single stores make of the records of an area.
+pub mod Turning
 pub mod Least
 pub mod Records
 pub mod Reading

@@ -5,5 +5,6 @@ pub mod Choice
 pub mod Calls
 pub mod Signals
 pub mod Turn
+pub mod Traps
 pub mod Run
 pub mod Report

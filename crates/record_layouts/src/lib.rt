@@ -23,6 +23,7 @@ mod row;
 mod sig;
 mod spelling;
 mod term;
+mod traps;
 mod view;
 mod writer;
 
@@ -44,5 +45,6 @@ pub use proc::{ProcRec, processes_are_spelled_once};
 pub use row::{RowRec, rows_are_spelled_once};
 pub use sig::{SigRec, signals_are_spelled_once};
 pub use term::{TermRec, terminals_are_spelled_once};
+pub use traps::{Trap, turns_are_traps};
 pub use view::RecordView;
 pub use writer::Writer;

@@ -1,16 +1,16 @@
 use Rattle.std.proofs.Common.{false, IsTrue, ◌↔◌, refl, sym}
 use Rattle.process_table.specs.declared.choice.Choice.TheVariants as choice
 use Rattle.ow_plant.specs.State.{PlantState}
-use Rattle.kernel_traps.specs.Turning.{AllHaveEnded}
-use Rattle.kernel_traps.proofs.KernelServed.{all_ended, rest_live, user_not_ended, work_live}
+use Rattle.kernel_traps.specs.Turning.{AllHaveEnded, IsSomeLive}
+use Rattle.kernel_traps.proofs.KernelServed.{all_ended, not_ended, rest_live, user_lives, work_live}
 use Rattle.kernel_traps.proofs.ended.all_have_ended.Goals as goal
 
 -- where some process is live the answer is no
-not_all : (s : PlantState) → (AllHaveEnded s → ⊥) → IsTrue false ↔ AllHaveEnded s
-not_all s some = (λ no. absurd (cc), λ ended. absurd (some ended))
+not_all : (s : PlantState) → IsSomeLive s → IsTrue false ↔ AllHaveEnded s
+not_all s live = (λ no. absurd (cc), λ ended. absurd (not_ended s live ended))
 
 pub returns-then-in_user : goal.returns-then-in_user
-returns-then-in_user c = not_all c.args.plant.now (user_not_ended c.args.plant.now c.requires.sound (sym c.if-in_user.ensures))
+returns-then-in_user c = not_all c.args.plant.now (user_lives c.args.plant.now c.requires.sound (sym c.if-in_user.ensures))
 
 pub returns-in-User : goal.returns-in-User
 returns-in-User c =

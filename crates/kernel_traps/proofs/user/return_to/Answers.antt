@@ -1,17 +1,11 @@
 use Rattle.std.proofs.Common.{rules, ◌≡◌, ◌+◌, ◌*◌, Some, sym, ap, ◌∙◌, arith}
-use Rattle.phys_memory.specs.Memory.{words_of}
-use Rattle.record_layouts.specs.declared.memory_map.MemoryMap.{MemoryMap}
 use Rattle.record_layouts.specs.Held.{Records}
-use Rattle.record_layouts.specs.Reading.{records_of}
 use Rattle.process_table.specs.Patches.{bank_of}
-use Rattle.ow_plant.specs.State.{PlantState, returned_to}
-use Rattle.intent_store.specs.Live.{map_of, records_held}
+use Rattle.ow_plant.specs.State.{returned_to}
+use Rattle.intent_store.specs.Live.{records_held}
+use Rattle.kernel_traps.proofs.Stays.{view_is}
 use Rattle.kernel_traps.proofs.Returning.{area_small, goes_soundly, goes_to}
 use Rattle.kernel_traps.proofs.user.return_to.Goals as goal
-
--- the view is of the records that are held
-view_is : (s source : PlantState) (map : MemoryMap) → source ≡ s → map ≡ map_of s → records_of map (words_of source.memory) ≡ records_held s
-view_is s source map same is = λ i. records_of (is i) (words_of (same i).memory)
 
 pub to_user-requires-clause-root : goal.to_user-requires-clause-root
 to_user-requires-clause-root c =

@@ -1,0 +1,18 @@
+use Rattle.std.proofs.Common.{◌≡◌, ◌∙◌, Some, ap, sym}
+use Rattle.record_layouts.specs.Held.{Records}
+use Rattle.process_table.specs.Choosing.{signal_by}
+use Rattle.intent_store.specs.Live.{records_held}
+use Rattle.kernel_traps.proofs.KernelServed.{signal_next}
+use Rattle.kernel_traps.proofs.Stays.{view_is}
+use Rattle.kernel_traps.proofs.serving.signal_in.Goals as goal
+
+pub returns : goal.returns
+returns c =
+    let s = c.args.plant.now in
+    let process = c.unwrap-process.result in
+    let view = view_is s c.live_records-view.result.source.now c.live_records-view.result.map c.live_records-view.ensures.source c.live_records-view.ensures.map in
+    let reads : (records_held s).procs c.args.slot ≡ Some process =
+    ap (λ (r : Records). r.procs c.args.slot) (sym view) ∙ (sym c.proc.ensures.record ∙ c.unwrap-process.ensures) in
+    let goes : signal_by process ((records_held s).sigs c.args.slot) ≡ Some c.unwrap-signal.result =
+    ap (λ (r : Records). signal_by process (r.sigs c.args.slot)) (sym view) ∙ (sym c.signal_of.ensures ∙ c.unwrap-signal.ensures) in
+    signal_next s c.args.slot process c.unwrap-signal.result c.requires.sound c.requires.in_kernel c.requires.work reads goes
