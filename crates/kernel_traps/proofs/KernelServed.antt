@@ -4,6 +4,7 @@ use Rattle.std.proofs.lemmas.Bool.{cases_Bool}
 use Rattle.std.proofs.lemmas.Bool.Decides.{nat_tests}
 use Rattle.ow_base.specs.declared.machine.Now.{Now}
 use Rattle.phys_memory.specs.Memory.{words_of}
+use Rattle.record_layouts.specs.declared.places.RecordId.TheVariants as id
 use Rattle.record_layouts.specs.declared.proc.ProcRec.{ProcRec}
 use Rattle.record_layouts.specs.declared.traps.Trap.{Trap}
 use Rattle.record_layouts.specs.declared.traps.Trap.TheVariants as trap
@@ -161,7 +162,7 @@ held_there (Some process) some = (process, refl)
 held_there None some = cc
 
 record_in : (s : PlantState) → IsSound s → (process : ProcRec) × ((records_held s).procs 0 ≡ Some process)
-record_in s sound = held_there ((records_held s).procs 0) (sound.held.records.complete.procs 0 (omega arith))
+record_in s sound = held_there ((records_held s).procs 0) (sound.held.records.complete (id.Proc 0) (omega arith))
 
 -- no process can run
 pub idle_next : (s : PlantState) → IsSound s → s.in_user ≡ false → IsRest (records_held s) (now_of s) true → IsTrapNext s s trap.Idle
