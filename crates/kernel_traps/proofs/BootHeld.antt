@@ -13,14 +13,14 @@ use Rattle.phys_memory.proofs.Words.{words_of-zeroed}
 use Rattle.record_layouts.specs.declared.memory_map.MemoryMap.{MemoryMap}
 use Rattle.record_layouts.specs.Held.{Held, Records, beside, is_of_area}
 use Rattle.record_layouts.specs.Overlay.{Area, area_at, may_change}
-use Rattle.record_layouts.specs.Places.{IsRecordId}
+use Rattle.record_layouts.specs.Places.{IsRecordId, is_id}
+use Rattle.record_layouts.specs.At.{at, fitted}
 use Rattle.record_layouts.specs.declared.places.RecordId.{RecordId}
 use Rattle.record_layouts.specs.Reading.{records_in, records_of}
 use Rattle.ow_plant.specs.State.{PlantState, IsReady}
 use Rattle.intent_store.specs.Live.{held_of, map_of, records_held, rest_of}
 use Rattle.kernel_traps.specs.Boot.{IsBootable, program_in}
 use Rattle.kernel_traps.specs.BootPages.{pages_before, with_starts}
-use Rattle.kernel_traps.specs.BootAt.{at, fitted, is_id}
 use Rattle.kernel_traps.specs.BootRecords.{booted_record}
 use Rattle.kernel_traps.specs.BootSets.{HasRecords, unrecorded}
 use Rattle.kernel_traps.specs.BootState.{IsBooted}

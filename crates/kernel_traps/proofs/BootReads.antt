@@ -7,12 +7,12 @@ use Rattle.record_layouts.specs.declared.memory_map.MemoryMap.{MemoryMap}
 use Rattle.record_layouts.specs.declared.places.RecordId.{RecordId}
 use Rattle.record_layouts.specs.declared.places.RecordId.TheVariants as id
 use Rattle.record_layouts.specs.Overlay.{Area}
-use Rattle.record_layouts.specs.Places.{IsRecordId}
+use Rattle.record_layouts.specs.Places.{IsRecordId, is_id}
+use Rattle.record_layouts.specs.At.{at, fitted}
 use Rattle.record_layouts.specs.Reading.{records_in, words_of}
 use Rattle.record_layouts.specs.Seam.{IsSpelled}
 use Rattle.record_layouts.specs.Spelling.{are_below, lies_between}
 use Rattle.record_layouts.proofs.Reading.{cache_read, desc_read, exit_read, file_read, head_read, proc_read, row_read, sig_read, term_read}
-use Rattle.kernel_traps.specs.BootAt.{at, fitted, is_id}
 use Rattle.kernel_traps.specs.BootRecords.{booted_record}
 use Rattle.kernel_traps.specs.BootSets.{HasRecords}
 use Rattle.kernel_traps.proofs.BootSets.{all_numbered}

@@ -9,7 +9,6 @@ pub mod Turning
 pub mod User
 pub mod Boot
 pub mod BootStores
-pub mod BootAt
 pub mod BootRecords
 pub mod BootSets
 pub mod BootPages
