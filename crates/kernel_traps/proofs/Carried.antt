@@ -1,6 +1,5 @@
 -- Once a service is carried out the plant is sound again as the trap is left.
-use Rattle.std.proofs.Common.{◌≡◌, ◌==◌, ◌+◌, ◌*◌, ◌^◌, ◌<◌, ◌≤◌, ℕ, zero, suc, false, List, length, Option, Some, None, IfSome, inl, inr, refl, sym, ap, subst, ◌∙◌, arith}
-use Rattle.std.proofs.lemmas.Bool.{cases_Bool}
+use Rattle.std.proofs.Common.{◌≡◌, ◌+◌, ◌*◌, ◌^◌, ◌<◌, ◌≤◌, ℕ, zero, suc, false, List, length, Option, Some, None, IfSome, refl, sym, ap, subst, ◌∙◌, arith}
 use Rattle.ow_base.specs.Pages.{Pages, bytes_at}
 use Rattle.phys_memory.specs.Memory.{words_of}
 use Rattle.record_layouts.specs.declared.places.RecordId.TheVariants as id
@@ -22,6 +21,7 @@ use Rattle.kernel_traps.specs.Plants.{AreInWrites, AreTerminalsSound, IsInTrap, 
 use Rattle.kernel_traps.specs.Putting.{AreDrawn, IsPut, with_puts}
 use Rattle.kernel_traps.specs.Carrying.{HasRoomFor, IsCarriedOut, bytes_of}
 use Rattle.kernel_traps.specs.Ending.{EndsTrap, HasStep}
+use Rattle.kernel_traps.proofs.Puts.{puts_beside}
 use Rattle.kernel_traps.proofs.OfProcesses.{items_beside, same_rows, same_terms, shown_by}
 use Rattle.kernel_traps.proofs.ShownSound.{drawn_rows, drawn_terms, on_terminals_too, shown_sound, writes_too}
 use Rattle.kernel_traps.proofs.Terminals.{few_bytes, of_device-same, of_devices}
@@ -84,11 +84,6 @@ between_sound r put tty bytes sound drawn terms rows = shown_sound r put.terms p
   terms_fit = terms;
   rows_fit = rows;
 })
-
--- a write changes no more of the plant than its terminals
-puts_beside : (s : PlantState) (tty : ℕ) (bytes : List ℕ)
-    → with_puts s tty bytes ≡ record s { tty0 = (with_puts s tty bytes).tty0; tty1 = (with_puts s tty bytes).tty1 }
-puts_beside s tty bytes = elim (cases_Bool (tty == 0)) [ inl first ↦ rw first refl | inr second ↦ rw second refl ]
 
 -- records that are set at once
 once_kept : (s new : PlantState) (steps : ℕ) (items : List PatchItem) → IsInTrap s steps → EndsTrap (records_held s) s.traps (PlanOnce items)

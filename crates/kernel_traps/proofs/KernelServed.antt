@@ -31,7 +31,7 @@ use Rattle.kernel_traps.specs.Turning.{AllHaveEnded, IsSomeLive, IsTurn}
 use Rattle.kernel_traps.specs.User.{IsOutside, IsReturned, at_process}
 use Rattle.kernel_traps.specs.declared.turns.Turn.TheVariants as turns
 use Rattle.kernel_traps.proofs.TrapKinds.{live_at}
-use Rattle.kernel_traps.proofs.TurnUnix.{at_kernel, at_user, chosen_of, chosen_trap, idle_stays, idle_trap, lives, none_of, rest_tells, settled_trap, settles, stays_settled}
+use Rattle.kernel_traps.proofs.TurnUnix.{at_kernel, at_user, chosen_of, chosen_trap, idle_stays, idle_trap, lives, none_of, rest_tells, same_then, settled_trap, settles, stays_settled}
 
 -- who is chosen is live
 ready_live : (r : Records) (now : Now) (above slot : ℕ) (process : ProcRec) → r.procs slot ≡ Some process → is_ready r now above slot ≡ true → is_live process ≡ true
@@ -211,12 +211,7 @@ trap_turned s at new t is made = (
     sound = made.sound;
     turn = made.unix ∙ (ap (λ (u : Unix). after_trap u t) is.settled.unix ∙ sym (turn_is s.shape (unix_at s) ∙ ap (turned_by (settled no_keys (unix_at s))) is.trap));
     steps = made.steps ∙ (λ i. is.settled.steps i + is.step i);
-    same = record {
-      shape = made.same.shape ∙ is.settled.same.shape;
-      points = made.same.points ∙ is.settled.same.points;
-      live = made.same.live ∙ is.settled.same.live;
-      history = made.same.history ∙ is.settled.same.history;
-    };
+    same = same_then s at new is.settled.same made.same;
   },
   made.traps ∙ ap (λ (n : ℕ). n + 1) is.settled.traps,
 )

@@ -97,6 +97,11 @@ with_puts-none s tty = elim (cases_Bool (tty == 0)) [
   | inr second ↦ rw second (λ i. record s { tty1 = puts_none s.tty1 i })
 ]
 
+-- bytes that are put change no more of a plant than its terminals
+pub puts_beside : (s : PlantState) (tty : ℕ) (bytes : List ℕ)
+    → with_puts s tty bytes ≡ record s { tty0 = (with_puts s tty bytes).tty0; tty1 = (with_puts s tty bytes).tty1 }
+puts_beside s tty bytes = elim (cases_Bool (tty == 0)) [ inl first ↦ rw first refl | inr second ↦ rw second refl ]
+
 -- what is held of a plant with a byte put, and of one that refuses
 pub held_put : (s : PlantState) (tty byte : ℕ) → held_of (with_put s tty byte) ≡ record (held_of s) { rest = with_puts (rest_of s) tty (byte ∷ []) }
 held_put s tty byte = elim (cases_Bool (tty == 0)) [ inl first ↦ rw first refl | inr second ↦ rw second refl ]

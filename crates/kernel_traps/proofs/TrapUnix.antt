@@ -1,7 +1,5 @@
 -- What a plant stands for once the plan of a trap is carried out and the trap has ended.
-use Rattle.std.proofs.Common.{◌≡◌, ◌∙◌, ◌==◌, ◌+◌, ◌^◌, ◌<◌, ◌≤◌, ℕ, zero, suc, false, List, length, Option, Some, None, IfSome, refl, sym, ap, subst, arith}
-use Rattle.std.proofs.lemmas.Bool.{cases_Bool}
-use Rattle.std.proofs.Common.{inl, inr}
+use Rattle.std.proofs.Common.{◌≡◌, ◌∙◌, ◌+◌, ◌^◌, ◌<◌, ◌≤◌, ℕ, zero, suc, false, List, length, Option, Some, None, IfSome, refl, sym, ap, subst, arith}
 use Rattle.ow_base.specs.Pages.{Pages, bytes_at}
 use Rattle.phys_memory.specs.Memory.{words_of}
 use Rattle.record_layouts.specs.declared.memory_map.MemoryMap.{MemoryMap}
@@ -17,14 +15,14 @@ use Rattle.syscalls.specs.declared.service.Service.TheVariants as service
 use Rattle.syscalls.specs.Done.{IsDone}
 use Rattle.syscalls.specs.Planned.{Planned, PlanOnce, PlanWrite, pages_in}
 use Rattle.syscalls.specs.Serving.{IsDoable, plan_of}
-use Rattle.ow_plant.specs.State.{PlantState, left_trap, tty_of}
+use Rattle.ow_plant.specs.State.{PlantState, left_trap, tty_of, Device}
 use Rattle.intent_store.specs.Live.{held_of, map_of, records_held, rest_of}
 use Rattle.kernel_traps.specs.Plants.{IsInTrap, IsOfDevice, IsSound, context_of, tapes_of, unix_at}
-use Rattle.kernel_traps.specs.Putting.{with_puts}
 use Rattle.kernel_traps.specs.Carrying.{IsCarriedOut, bytes_of}
 use Rattle.kernel_traps.specs.Ending.{IsEnded}
 use Rattle.kernel_traps.specs.Turning.{IsSameMachine}
 use Rattle.kernel_traps.specs.Traps.{IsTrapMade, begun_by}
+use Rattle.kernel_traps.proofs.Puts.{puts_beside}
 use Rattle.kernel_traps.proofs.Stays.{map_held, room_held, unix_same}
 use Rattle.kernel_traps.proofs.Done.{done as write_done}
 use Rattle.kernel_traps.proofs.Entering.{MayTrap, begins, steps_begun, traps_begun}
@@ -40,9 +38,9 @@ pub record IsCarrier (old new : PlantState) : Type 0 where
   pub steps : new.steps ≡ old.steps
   pub traps : new.traps ≡ old.traps
 
-by_rest : (old new : PlantState) → beside (records_held new).map.area_base (words_of new.memory) ≡ beside (records_held old).map.area_base (words_of old.memory)
-    → rest_of new ≡ rest_of old → IsCarrier old new
-by_rest old new contents rest = record {
+by_rest : (old new : PlantState) (tty0 tty1 : Device) → beside (records_held new).map.area_base (words_of new.memory) ≡ beside (records_held old).map.area_base (words_of old.memory)
+    → rest_of new ≡ record (rest_of old) { tty0 = tty0; tty1 = tty1 } → IsCarrier old new
+by_rest old new tty0 tty1 contents rest = record {
   contents = contents;
   shape = ap (λ (s : PlantState). s.shape) rest;
   live = ap (λ (s : PlantState). s.live) rest;
@@ -53,43 +51,12 @@ by_rest old new contents rest = record {
   traps = ap (λ (s : PlantState). s.traps) rest;
 }
 
--- bytes that are put change nothing else
-by_puts : (old new : PlantState) (tty : ℕ) (bytes : List ℕ) → beside (records_held new).map.area_base (words_of new.memory) ≡ beside (records_held old).map.area_base (words_of old.memory)
-    → rest_of new ≡ with_puts (rest_of old) tty bytes → IsCarrier old new
-by_puts old new tty bytes contents rest = elim (cases_Bool (tty == 0)) [
-  | inl first ↦
-      let is = rw first at rest in
-      record {
-        contents = contents;
-        shape = ap (λ (s : PlantState). s.shape) is;
-        live = ap (λ (s : PlantState). s.live) is;
-        points = ap (λ (s : PlantState). s.points) is;
-        history = ap (λ (s : PlantState). s.history) is;
-        in_user = ap (λ (s : PlantState). s.in_user) is;
-        steps = ap (λ (s : PlantState). s.steps) is;
-        traps = ap (λ (s : PlantState). s.traps) is;
-      }
-  | inr second ↦
-      let is = rw second at rest in
-      record {
-        contents = contents;
-        shape = ap (λ (s : PlantState). s.shape) is;
-        live = ap (λ (s : PlantState). s.live) is;
-        points = ap (λ (s : PlantState). s.points) is;
-        history = ap (λ (s : PlantState). s.history) is;
-        in_user = ap (λ (s : PlantState). s.in_user) is;
-        steps = ap (λ (s : PlantState). s.steps) is;
-        traps = ap (λ (s : PlantState). s.traps) is;
-      }
-]
-
 pub carrier : (old new : PlantState) (slot : ℕ) (plan : Planned) → IsCarriedOut old slot plan (held_of new) → IsCarrier old new
 carrier old new slot (PlanOnce items) is =
-    by_rest old new (ap (λ (h : Held PlantState). h.contents) is) (ap (λ (h : Held PlantState). h.rest) is)
+    by_rest old new old.tty0 old.tty1 (ap (λ (h : Held PlantState). h.contents) is) (ap (λ (h : Held PlantState). h.rest) is)
 carrier old new slot (PlanWrite tty from len items) (put, is, last) =
-    by_puts old new tty (bytes_of old slot from len)
-    (ap (λ (h : Held PlantState). h.contents) last ∙ ap (λ (h : Held PlantState). h.contents) is.rest)
-    (ap (λ (h : Held PlantState). h.rest) last ∙ ap (λ (h : Held PlantState). h.rest) is.rest)
+    by_rest old new _ _ (ap (λ (h : Held PlantState). h.contents) last ∙ ap (λ (h : Held PlantState). h.contents) is.rest)
+    (ap (λ (h : Held PlantState). h.rest) last ∙ (ap (λ (h : Held PlantState). h.rest) is.rest ∙ puts_beside (rest_of old) tty (bytes_of old slot from len)))
 
 -- the state that the plant stands for, by the words before
 map_still : (old new : PlantState) → IsCarrier old new → (records_held new).map ≡ (records_held old).map
@@ -136,15 +103,6 @@ service_done b new slot steps process (service.TtyWrite tty from len patch) trap
     write_done b new slot tty from len patch.items.items process there low
     (told_by_device b tty ((records_held b).terms tty) low (trap.terminals.records tty low)) room is
 
--- a trap that has ended
-same_machine : (s b new : PlantState) → IsSameMachine s b → IsCarrier b new → IsSameMachine s (left_trap new)
-same_machine s b new same is = record {
-  shape = is.shape ∙ same.shape;
-  points = is.points ∙ same.points;
-  live = is.live ∙ same.live;
-  history = is.history ∙ same.history;
-}
-
 -- a trap is made: the state is the one that its plan makes of the records and tapes
 pub trap_made : (s new : PlantState) (t : Trap) (slot : ℕ) (process : ProcRec) (x : Service) (after : Unix) → MayTrap s t
     → (records_held s).procs slot ≡ Some process → IsDoable (records_held s) (words_of s.memory) slot x
@@ -156,7 +114,6 @@ trap_made s new t slot process x after may there doable law (done, out, left) so
     let is : IsCarrier b done = carrier b done slot (plan_of x) out in
     let steps = steps_begun s t may in
     let traps = traps_begun s t may in
-    let same : IsSameMachine s (left_trap done) = same_machine s b done (record { shape = refl; points = refl; live = refl; history = refl }) is in
     let served = service_done b done slot s.steps process x (begins s t may) may.most there doable out in
     let unix : unix_at (left_trap done) ≡ after =
     unix_left b done is refl
@@ -166,5 +123,5 @@ trap_made s new t slot process x after may there doable law (done, out, left) so
       unix = ap (λ (p : PlantState). unix_at p) left ∙ unix;
       steps = ap (λ (p : PlantState). p.steps) left ∙ (is.steps ∙ steps);
       traps = ap (λ (p : PlantState). p.traps) left ∙ (is.traps ∙ traps);
-      same = subst (IsSameMachine s) (sym left) same;
+      same = subst (IsSameMachine s) (sym left) (record { shape = is.shape; points = is.points; live = is.live; history = is.history });
     }

@@ -20,7 +20,7 @@ use Rattle.intent_store.specs.Live.{records_held}
 use Rattle.kernel_traps.specs.Due.{IsSettled}
 use Rattle.kernel_traps.specs.Plants.{IsSound, context_of, tapes_of, unix_at}
 use Rattle.kernel_traps.specs.Traps.{IsLiveAs}
-use Rattle.kernel_traps.specs.Turning.{IsSomeLive}
+use Rattle.kernel_traps.specs.Turning.{IsSameMachine, IsSomeLive}
 use Rattle.kernel_traps.proofs.TrapKinds.{kernel_unix}
 
 -- nothing is typed
@@ -49,6 +49,15 @@ settled_turn s at is = sym (λ i. turn_at no_keys (is.same.shape i).quantum (is.
 pub settled_trap : (s at : PlantState) → IsSettled s at → trap_of_turn no_keys s.shape (unix_at s) ≡ trap_at no_keys at.shape.quantum (unix_at at) (unix_at at).position
 unfolding trap_of_turn
 settled_trap s at is = sym (λ i. trap_at no_keys (is.same.shape i).quantum (is.unix i) (is.unix i).position)
+
+-- from one machine to another of the same
+pub same_then : (a b c : PlantState) → IsSameMachine a b → IsSameMachine b c → IsSameMachine a c
+same_then a b c first then = record {
+  shape = then.shape ∙ first.shape;
+  points = then.points ∙ first.points;
+  live = then.live ∙ first.live;
+  history = then.history ∙ first.history;
+}
 
 -- a plant that is settled as it is
 pub stays_settled : (s : PlantState) → IsSound s → IsSomeLive s → settled no_keys (unix_at s) ≡ unix_at s → IsSettled s s

@@ -15,7 +15,7 @@ use Rattle.kernel_traps.specs.Traps.{IsDue}
 use Rattle.kernel_traps.specs.User.{IsTurnOf, IsUserTurn}
 use Rattle.kernel_traps.specs.declared.turns.Next.{Next}
 use Rattle.kernel_traps.specs.declared.turns.Next.TheVariants as next
-use Rattle.kernel_traps.proofs.TurnUnix.{at_user, settled_trap, settled_turn}
+use Rattle.kernel_traps.proofs.TurnUnix.{at_user, same_then, settled_trap, settled_turn}
 
 -- what the turn of the process in user mode comes to
 abbrev pub next_by : (pid : ℕ) → UserEnd → Next
@@ -47,12 +47,7 @@ next_then s at new next.Step is in_user made = (
     sound = made.sound;
     turn = made.turn ∙ sym (settled_turn s at is ∙ ap (turn_at no_keys at.shape.quantum (unix_at at)) (at_user at in_user));
     steps = made.steps ∙ ap (λ (n : ℕ). n + 1) is.steps;
-    same = record {
-      shape = made.same.shape ∙ is.same.shape;
-      points = made.same.points ∙ is.same.points;
-      live = made.same.live ∙ is.same.live;
-      history = made.same.history ∙ is.same.history;
-    };
+    same = same_then s at new is.same made.same;
   },
   made.traps ∙ is.traps,
 )

@@ -14,6 +14,7 @@ use Rattle.record_layouts.specs.Unix.State.{Unix, start_of}
 use Rattle.ow_plant.specs.State.{PlantState}
 use Rattle.kernel_traps.specs.Plants.{IsSound, unix_at}
 use Rattle.kernel_traps.specs.Turning.{AllHaveEnded, IsSameMachine, IsSomeLive, IsTurned}
+use Rattle.kernel_traps.proofs.TurnUnix.{same_then}
 
 -- the counts of a plant are those of its state
 pub steps_at : (s : PlantState) → (unix_at s).steps ≡ s.steps
@@ -64,15 +65,6 @@ not_told answer off on = absurd (cc)
 
 pub live_by : (s : PlantState) (answer : Bool) → IsTrue answer ↔ AllHaveEnded s → answer ≡ false → IsSomeLive s
 live_by s answer tells off = some_live s (λ ended. not_told answer off (tells.1 ended))
-
--- from one machine to another of the same
-pub same_then : (a b c : PlantState) → IsSameMachine a b → IsSameMachine b c → IsSameMachine a c
-same_then a b c first then = record {
-  shape = then.shape ∙ first.shape;
-  points = then.points ∙ first.points;
-  live = then.live ∙ first.live;
-  history = then.history ∙ first.history;
-}
 
 -- where a turn is made steps were left
 some_left : (load : Load) (first s t : PlantState) → first.shape ≡ load.shape → IsSameMachine first s → IsTurned s t → s.steps < load.shape.budget

@@ -12,7 +12,8 @@ use Rattle.kernel_traps.specs.Traps.{IsAllEnded}
 use Rattle.kernel_traps.specs.Turning.{IsSomeLive, IsTurn}
 use Rattle.kernel_traps.specs.declared.turns.Turn.{Turn}
 use Rattle.kernel_traps.specs.declared.turns.Turn.TheVariants as turns
-use Rattle.schedule_runner.proofs.Running.{comes_first, comes_nearer, comes_on, few_traps, live_by, runs_dry, runs_out, same_then, some_live}
+use Rattle.kernel_traps.proofs.TurnUnix.{same_then}
+use Rattle.schedule_runner.proofs.Running.{comes_first, comes_nearer, comes_on, few_traps, live_by, runs_dry, runs_out, some_live}
 use Rattle.schedule_runner.proofs.runner.run.Goals.{else-steps-load-via-then-steps-load+else-not-all_have_ended, else-steps-load-via-else-steps-load}
 use Rattle.schedule_runner.proofs.runner.run.Goals as goal
 
