@@ -47,5 +47,5 @@ world_boots text world is = record {
 pub none_at_boot : (points : List Point) (s : PlantState) → ArePoints points → s.points ≡ points_of points → HasNoneAtBoot s
 none_at_boot points s are is = record {
   from_one = subst (λ (ps : List PanicPoint). All (λ (p : PanicPoint). 1 ≤ p.trap) ps) (sym is)
-      (All-map (λ (p : PanicPoint). 1 ≤ p.trap) (λ (p : Point). record { trap = p.trap; store = p.store }) points are.from_one);
+      (All-map (λ (p : PanicPoint). 1 ≤ p.trap) (λ (p : Point). record { trap = p.trap; store = p.store; entered = false }) points are.from_one);
 }

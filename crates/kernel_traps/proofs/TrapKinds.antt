@@ -66,7 +66,7 @@ pub is_plan : (s : PlantState) (t : Trap) (slot : ℕ) (plan : Planned) → IsHe
     → IfSome (records_held s).head (λ head. IfSome ((records_held s).procs slot) (λ process. plan ≡ plan_for s t slot head process)) → IsPlanOf s t slot plan
 is_plan s t slot plan sound (process, has) is =
     let r = records_held s in
-    let (head, is_head) = head_there r.head sound.records.complete id.Head tt in
+    let (head, is_head) = head_there r.head (sound.records.complete id.Head tt) in
     record {
       head = head;
       process = process;

@@ -37,8 +37,8 @@ HasStep (PlanWrite tty from len items) bytes_of steps = bytes_of < steps
 abbrev pub IsEnded : PlantState → (slot : ℕ) → Planned → PlantState → Type 0
 IsEnded s slot plan new = (done : PlantState) × IsCarriedOut s slot plan (held_of done) × (new ≡ left_trap done)
 
--- What a refusal may leave of a trap with a plan: where a store was refused a part of the plan, and where the end of the trap was
--- refused all of it.
+-- What a refusal may leave of a trap with a plan: where a store was refused a part of the plan, and where the end of the
+-- trap was refused all of it.
 abbrev pub MayBeLeftOfPlan : PlantState → (slot : ℕ) → Planned → PlantState → Type 0
 MayBeLeftOfPlan s slot plan new =
     ((new.refusal ≡ Some refusal.Store) × MayBeLeft s slot plan (held_of new))
