@@ -19,7 +19,7 @@ use Rattle.kernel_traps.specs.Boot.{IsBootable, program_in}
 use Rattle.kernel_traps.specs.BootRecords.{booted_description, booted_exit, booted_process, booted_signals, description_for, free_process, started_descs, started_record}
 use Rattle.kernel_traps.specs.BootState.{IsBooted}
 use Rattle.kernel_traps.specs.Plants.{AreInWrites}
-use Rattle.kernel_traps.proofs.BootPages.{start_there}
+use Rattle.kernel_traps.proofs.BootLayout.{start_there}
 
 -- a slot has the process of its program, and none is behind the starts
 pub process_there : (load : Load) (slot : ℕ) (program : Program) → program_in load slot ≡ Some program → booted_process load slot ≡ started_record slot program

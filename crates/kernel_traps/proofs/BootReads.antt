@@ -1,5 +1,5 @@
 -- What is read where the records of boot are spelled.
-use Rattle.std.proofs.Common.{◌≡◌, Bool, true, false, None, refl, arith}
+use Rattle.std.proofs.Common.{◌≡◌, Bool, true, false, None, is_some, refl, arith}
 use Rattle.std.proofs.lemmas.Bool.{lt-ltb}
 use Rattle.std.proofs.lemmas.Bool.Decides.{nat_tests}
 use Rattle.ow_base.specs.declared.worlds.Load.{Load}
@@ -33,6 +33,10 @@ spelled_read map area load (id.Exit i) there is = let within : lies_between 1 25
 pub booted_read : (map : MemoryMap) (area : Area) (load : Load) → HasRecords area (booted_record load) 467
     → (one : RecordId) → IsRecordId one → at (records_in map true area) one ≡ fitted one (booted_record load one)
 booted_read map area load has one there = spelled_read map area load one there (has.each one there (all_numbered one there))
+
+pub booted_decodes : (load : Load) (one : RecordId) → is_some (fitted one (booted_record load one)) ≡ true
+booted_decodes load id.Head = refl
+booted_decodes load one = refl
 
 -- there is no record behind the last of a kind
 pub none_read : (map : MemoryMap) (is_readable : Bool) (area : Area) (one : RecordId) → is_id one ≡ false → at (records_in map is_readable area) one ≡ None

@@ -1,12 +1,17 @@
--- A machine that is ready can boot: its memory is 0.
-use Rattle.std.proofs.Common.{◌≡◌, ℕ, ◌+◌, ◌*◌, ◌/◌, ◌%◌, ◌≤◌, ap, inl, inr, arith}
+-- A machine that is ready can boot: its memory is 0, and the frames of half A are there.
+use Rattle.std.proofs.Common.{◌≡◌, ℕ, ◌+◌, ◌*◌, ◌/◌, ◌%◌, ◌≤◌, ap, subst, inl, inr, arith}
 use Rattle.std.proofs.lemmas.Bool.{cases_lt}
 use Rattle.ow_base.specs.declared.machine.Shape.{Shape}
 use Rattle.phys_memory.specs.Memory.{words_of, zeroed}
-use Rattle.phys_memory.proofs.Words.{IsSized-zeroed, frame_count-sized, words_of-none, words_of-past, words_of-zeroed}
-use Rattle.record_layouts.specs.Overlay.{area_at, or_zero}
+use Rattle.phys_memory.proofs.Words.{IsSized-zeroed, frame_count-sized, words_of-none, words_of-past, words_of-some, words_of-zeroed}
+use Rattle.ow_base.specs.declared.worlds.Load.{Load}
+use Rattle.record_layouts.specs.Overlay.{HasArea, area_at, or_zero}
 use Rattle.ow_plant.specs.State.{PlantState, IsReady}
+use Rattle.intent_store.proofs.Holding.{has_area}
+use Rattle.kernel_traps.specs.BootLayout.{boot_map}
+use Rattle.kernel_traps.specs.BootPlan.{HasFrames}
 use Rattle.kernel_traps.specs.BootStores.{HasNoneAtBoot, IsBooting}
+use Rattle.kernel_traps.proofs.BootStores.{booting_base}
 
 -- each word is 0
 no_word : (u frame word : ℕ) → or_zero (words_of (zeroed u) frame word) ≡ 0
@@ -35,4 +40,19 @@ ready_boots shape s few ready none =
       able = ready.no_refusal;
       of_area = ready.of_area;
       shut = rw ready.zeroed (area_zero shape.user_frames 1 16);
+    }
+
+-- the frames of half A are there
+pub booting_frames : (load : Load) (s : PlantState) → IsBooting s → s.shape ≡ load.shape → load.shape.user_frames ≤ 384
+    → HasFrames (words_of s.memory) (boot_map load)
+booting_frames load s is shape few =
+    let frames : s.shape.user_frames ≡ load.shape.user_frames = ap (λ (h : Shape). h.user_frames) shape in
+    let count = frame_count-sized s.shape.user_frames s.memory is.armed.sized in
+    record {
+      area = subst (λ (base : ℕ). HasArea (words_of s.memory) base) (booting_base s is) (has_area s is.armed);
+      low = omega arith;
+      numbered = omega (arith, few);
+      few = few;
+      apart = omega arith;
+      there = λ frame word less small. words_of-some s.memory (129 + frame) word (omega (arith, count, frames, less)) small;
     }

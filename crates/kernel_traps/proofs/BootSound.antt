@@ -1,5 +1,5 @@
 -- A kernel that has booted is sound.
-use Rattle.std.proofs.Common.{◌≡◌, ℕ, ◌+◌, ◌*◌, ◌<◌, ◌≤◌, Bool, true, false, ◌==◌, if◌then◌else◌, [], length, is_some, refl, sym, ap, subst, ◌∙◌, arith}
+use Rattle.std.proofs.Common.{◌≡◌, ℕ, ◌+◌, ◌*◌, ◌<◌, ◌≤◌, Bool, true, false, ◌==◌, if◌then◌else◌, [], length, refl, sym, ap, subst, ◌∙◌, arith}
 use Rattle.ow_base.specs.Screen.{blank_screen, screen_of}
 use Rattle.ow_base.specs.declared.machine.Shape.{Shape}
 use Rattle.ow_base.specs.declared.worlds.Load.{Load}
@@ -16,30 +16,22 @@ use Rattle.ow_plant.specs.State.{PlantState, silent_device, tty_of, Device}
 use Rattle.intent_store.specs.Live.{map_of, records_held, rest_of}
 use Rattle.intent_store.proofs.Holding.{shut_gate}
 use Rattle.tty_screen.proofs.ShownScreens.{blank_shows}
-use Rattle.kernel_traps.specs.Boot.{IsBootable}
-use Rattle.kernel_traps.specs.BootPages.{pages_before}
+use Rattle.kernel_traps.specs.Boot.{IsBootable, pages_before}
 use Rattle.kernel_traps.specs.BootRecords.{silent_record}
 use Rattle.kernel_traps.specs.BootState.{IsBooted}
 use Rattle.kernel_traps.specs.Plants.{AreTerminalsSound, IsHeldSound, IsOfDevice, IsSound, tapes_of, unix_at}
 use Rattle.kernel_traps.specs.Turning.{IsSameMachine}
 use Rattle.kernel_traps.proofs.BootFrames.{clean_there, is_mapped_there}
-use Rattle.kernel_traps.proofs.BootHeld.{IsBuilt, booted, of_shape, rest_same, words_booted}
+use Rattle.kernel_traps.proofs.BootHeld.{IsMade, booted, last, of_shape, words_booted}
 use Rattle.kernel_traps.proofs.BootNumbers.{are_in_calls, are_in_writes, are_numbered, are_on_terminals, in_started}
-use Rattle.kernel_traps.proofs.BootPages.{start_loadable}
+use Rattle.kernel_traps.proofs.BootLayout.{start_loadable}
+use Rattle.kernel_traps.proofs.BootReads.{booted_decodes}
 use Rattle.kernel_traps.proofs.BootStores.{booting_base}
 use Rattle.kernel_traps.proofs.BootUnix.{unix_same}
 
 module _ (r : Records) (load : Load) (is : IsBootable load) (b : IsBooted r load) where
   are_complete : AreComplete r
-  are_complete id.Head there = ap is_some (b.records id.Head there)
-  are_complete (id.Proc slot) there = ap is_some (b.records (id.Proc slot) there)
-  are_complete (id.Sig slot) there = ap is_some (b.records (id.Sig slot) there)
-  are_complete (id.Desc index) there = ap is_some (b.records (id.Desc index) there)
-  are_complete (id.File index) there = ap is_some (b.records (id.File index) there)
-  are_complete (id.Cache index) there = ap is_some (b.records (id.Cache index) there)
-  are_complete (id.Term tty) there = ap is_some (b.records (id.Term tty) there)
-  are_complete (id.Row index) there = ap is_some (b.records (id.Row index) there)
-  are_complete (id.Exit pid) there = ap is_some (b.records (id.Exit pid) there)
+  are_complete one there = rw (b.records one there) (booted_decodes load one)
 
   mapped : (slot : ℕ) (process : ProcRec) → IsIn r slot process → is_mapped r slot process ≡ true
   mapped slot process inside =
@@ -82,9 +74,9 @@ silent_sound r tty room device silent shown = rw silent (record { counted = refl
 silent_bytes : (device : Device) (steps room : ℕ) → device ≡ silent_device room → length device.tape ≤ 16 * steps
 silent_bytes device steps room silent = rw silent (omega arith)
 
-module _ (load : Load) (old between new : PlantState) (b : IsBuilt load old between new) where
+module _ (load : Load) (old new : PlantState) (b : IsMade load old new) where
   rest : rest_of new ≡ rest_of old
-  rest = rest_same load old between new b
+  rest = b.same_rest
 
   pub no_steps : new.steps ≡ 0
   no_steps = ap (λ (s : PlantState). s.steps) rest ∙ b.ready.no_steps
@@ -97,7 +89,7 @@ module _ (load : Load) (old between new : PlantState) (b : IsBuilt load old betw
 
   device : (tty : ℕ) → tty_of new tty ≡ silent_device (16 * new.shape.budget)
   device tty =
-      let budget : load.shape.budget ≡ new.shape.budget = sym (ap (λ (s : Shape). s.budget) (of_shape load old between new b)) in
+      let budget : load.shape.budget ≡ new.shape.budget = sym (ap (λ (s : Shape). s.budget) (of_shape load old new b)) in
       let zeroth : new.tty0 ≡ silent_device (16 * new.shape.budget) =
       ap (λ (s : PlantState). s.tty0) rest ∙ b.ready.tty0 ∙ ap (λ (n : ℕ). silent_device (16 * n)) budget in
       let other : new.tty1 ≡ silent_device (16 * new.shape.budget) =
@@ -120,13 +112,13 @@ module _ (load : Load) (old between new : PlantState) (b : IsBuilt load old betw
       tape zeroth other false false = refl
 
   is_booted : IsBooted (records_held new) load
-  is_booted = booted load old between new b
+  is_booted = booted load old new b
 
   is_held : IsHeldSound new
   is_held = record {
-    armed = b.last.armed;
-    able = b.last.able;
-    shut = shut_gate new 1 (sym (booting_base new b.last)) b.last.shut;
+    armed = (last load old new b).armed;
+    able = (last load old new b).able;
+    shut = shut_gate new 1 (sym (booting_base new (last load old new b))) (last load old new b).shut;
     records = are_sound (records_held new) load b.is is_booted (are_values (map_of new) (words_of new.memory));
     on_terminals = are_on_terminals (records_held new) load b.is is_booted;
     in_writes = are_in_writes (records_held new) load b.is is_booted;
@@ -145,7 +137,7 @@ module _ (load : Load) (old between new : PlantState) (b : IsBuilt load old betw
   sound_booted = record {
     held = is_held;
     no_trap_runs = outside;
-    served = rw (is_booted.records id.Head tt, outside, b.last.first) (omega arith);
+    served = rw (is_booted.records id.Head tt, outside, (last load old new b).first) (omega arith);
     terminals = are_terminals;
     budget = omega (arith, no_steps);
     in_user = λ inside. absurd (cc (inside, idle));
@@ -154,8 +146,8 @@ module _ (load : Load) (old between new : PlantState) (b : IsBuilt load old betw
   pub started_booted : unix_at new ≡ start_of load
   unfolding unix_at
   started_booted =
-      rw (idle, no_steps, b.last.first)
-      (unix_same (records_held new) (words_of new.memory) load b.is is_booted (words_booted load old between new b) (tapes_of new) silent)
+      rw (idle, no_steps, (last load old new b).first)
+      (unix_same (records_held new) (words_of new.memory) load b.is is_booted (words_booted load old new b) (tapes_of new) silent)
 
   pub same_booted : IsSameMachine old new
   same_booted = record {

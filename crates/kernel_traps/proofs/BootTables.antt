@@ -1,191 +1,278 @@
--- The tables and the owners after all programs have started.
-use Rattle.std.proofs.Common.{◌≡◌, ◌≢◌, ℕ, zero, suc, ◌+◌, ◌*◌, ◌<◌, ◌≤◌, false, ◌==◌, List, length, Option, Some, None, add-one, refl, ap, ◌∙◌, inl, inr, arith}
-use Rattle.std.proofs.lemmas.Bool.{cases_lt}
+-- The tables, the owners and the words of programs where a load is built.
+use Rattle.std.proofs.Common.{◌≡◌, ◌≢◌, ℕ, ◌+◌, ◌-◌, ◌*◌, ◌<◌, ◌≤◌, true, false, nat_lt, ◌&&◌, List, length, slice_index, Some, None, refl, sym, ap, ◌∙◌, inl, inr, arith}
+use Rattle.std.proofs.lemmas.Bool.{cases_Bool, cases_lt, le-ltb, lt-ltb}
 use Rattle.std.proofs.lemmas.Bool.Decides.{nat_tests}
-use Rattle.ow_base.specs.Entries.{leaf_word}
+use Rattle.ow_base.specs.Entries.{leaf_word, pointer_word}
+use Rattle.ow_base.specs.Sv32.{WordMap}
 use Rattle.ow_base.specs.World.{page_count, started_page_count}
+use Rattle.ow_base.specs.declared.machine.Rights.TheVariants.{Values}
 use Rattle.ow_base.specs.declared.worlds.Load.{Load}
 use Rattle.ow_base.specs.declared.worlds.Program.{Program}
-use Rattle.record_layouts.specs.Unix.State.{is_within}
-use Rattle.record_layouts.specs.Held.{Held, Records}
+use Rattle.record_layouts.specs.Held.{Records}
+use Rattle.record_layouts.specs.Overlay.{Area}
 use Rattle.record_layouts.specs.Pages.{claim_of}
-use Rattle.kernel_traps.specs.Boot.{IsBootable, program_in}
-use Rattle.kernel_traps.specs.BootPages.{pages_before, with_frame_words, with_leaves, with_start, with_starts}
-use Rattle.kernel_traps.specs.BootTables.{HasTables, low_rights}
-use Rattle.kernel_traps.proofs.BootPages.{pages_more, pages_rise, start_loadable, start_there}
+use Rattle.record_layouts.specs.Reading.{records_in}
+use Rattle.record_layouts.specs.Unix.State.{is_within}
+use Rattle.kernel_traps.specs.Boot.{IsBootable, IsLoadable, pages_before, program_in}
+use Rattle.kernel_traps.specs.BootLayout.{boot_map, booted_plan, holder_below, low_pages, number_in, page_in, placed_by, placed_in, word_at, word_by, word_in}
+use Rattle.kernel_traps.specs.BootPlan.{claim_by, entry_word, owner_word, page_entry}
+use Rattle.kernel_traps.specs.BootSets.{IsBuilt, IsFilled}
+use Rattle.kernel_traps.specs.BootTables.{HasTables, HasWords, low_rights}
+use Rattle.kernel_traps.proofs.BootLayout.{holder_found, holder_missed, pages_fit, pages_more, start_loadable}
 
--- a start sets words of tables and owners, and no record
-start_records : {Rest : Type 0} (h : Held Rest) (slot frame : ℕ) (program : Option Program)
-    → (with_start h slot frame program).records
-    ≡ record h.records { owners = (with_start h slot frame program).records.owners; table_words = (with_start h slot frame program).records.table_words }
-unfolding with_leaves with_frame_words
-start_records h slot frame (Some program) = refl
-start_records h slot frame None = refl
-
-pub starts_records : {Rest : Type 0} (h : Held Rest) (load : Load) (count : ℕ)
-    → (with_starts h load count).records
-    ≡ record h.records { owners = (with_starts h load count).records.owners; table_words = (with_starts h load count).records.table_words }
-unfolding with_starts
-starts_records h load zero = refl
-starts_records h load (suc n) =
-    let now = with_start (with_starts h load n) n (pages_before load n) (program_in load n) in
-    start_records (with_starts h load n) n (pages_before load n) (program_in load n)
-    ∙ ap (λ (r : Records). record r { owners = now.records.owners; table_words = now.records.table_words }) (starts_records h load n)
-
--- the tables of other slots stay
-other_slot : {Rest : Type 0} (h : Held Rest) (slot frame : ℕ) (program : Option Program) (s t w : ℕ) → (s == slot) ≡ false
-    → (with_start h slot frame program).records.table_words s t w ≡ h.records.table_words s t w
-unfolding with_leaves with_frame_words
-other_slot h slot frame (Some program) s t w other = rw other refl
-other_slot h slot frame None s t w other = refl
-
--- so do the owners of frames before the first page of the program
-earlier_frame : {Rest : Type 0} (h : Held Rest) (slot frame : ℕ) (program : Option Program) (i : ℕ) → i < frame
-    → (with_start h slot frame program).records.owners i ≡ h.records.owners i
-unfolding with_leaves with_frame_words
-earlier_frame h slot frame (Some program) i low = grind (arith, nat_tests)
-earlier_frame h slot frame None i low = refl
-
--- and those of frames behind its last page
-later_frame : {Rest : Type 0} (h : Held Rest) (slot frame : ℕ) (program : Program) (i : ℕ) → frame + started_page_count program ≤ i
-    → (with_start h slot frame (Some program)).records.owners i ≡ h.records.owners i
-unfolding with_leaves with_frame_words
-later_frame h slot frame program i past = grind (arith, nat_tests)
-
--- the owners of frames behind the pages of these starts
-pub later_owners : {Rest : Type 0} (h : Held Rest) (load : Load) → IsBootable load → (count i : ℕ) → count ≤ length load.starts
-    → pages_before load count ≤ i → (with_starts h load count).records.owners i ≡ h.records.owners i
-unfolding with_starts
-later_owners h load is zero i within past = refl
-later_owners h load is (suc n) i within past =
-    let (program, found, loadable) = start_there load n is (omega arith) in
-    let more = rw add-one at (pages_more load n program (omega arith) found) in
-    let here : (with_start (with_starts h load n) n (pages_before load n) (program_in load n)).records.owners i ≡ (with_starts h load n).records.owners i =
-    rw found (later_frame (with_starts h load n) n (pages_before load n) program i (omega (arith, more, past))) in
-    here ∙ later_owners h load is n i (omega arith) (omega (arith, more, past))
-
--- the tables of slots that come later
-pub later_tables : {Rest : Type 0} (h : Held Rest) (load : Load) (count s t w : ℕ) → count ≤ s
-    → (with_starts h load count).records.table_words s t w ≡ h.records.table_words s t w
-unfolding with_starts
-later_tables h load zero s t w late = refl
-later_tables h load (suc n) s t w late =
-    other_slot (with_starts h load n) n (pages_before load n) (program_in load n) s t w (grind (arith, nat_tests))
-    ∙ later_tables h load n s t w (omega arith)
-
-module _ {Rest : Type 0} (h : Held Rest) (slot frame : ℕ) (program : Program) (code : page_count program.code ≤ 64) (values : page_count program.values ≤ 64)
-    (clean : (t w : ℕ) → h.records.table_words slot t w ≡ 0) where
-  started : Records
-  started = (with_start h slot frame (Some program)).records
-
-  to_low : started.table_words slot 0 0 ≡ (17 + 3 * slot + 1) * 1024 + 1
-  unfolding started with_leaves with_frame_words
-  to_low = grind (arith, nat_tests)
-
-  to_high : started.table_words slot 0 511 ≡ (17 + 3 * slot + 2) * 1024 + 1
-  unfolding started with_leaves with_frame_words
-  to_high = grind (arith, nat_tests)
-
-  low : (number : ℕ) → number < page_count program.code + page_count program.values
-      → started.table_words slot 1 (16 + number) ≡ leaf_word (129 + (frame + number)) (low_rights (page_count program.code) number)
-  unfolding started with_leaves with_frame_words
-  low number few = grind (arith, nat_tests)
-
-  high : (number : ℕ) → number < 4
-      → started.table_words slot 2 (1020 + number)
-      ≡ (129 + (frame + (page_count program.code + page_count program.values) + number)) * 1024 + (1 + 2 + 4 + 16 + 64 + 128)
-  unfolding started with_leaves with_frame_words
-  high number few = grind (arith, nat_tests)
-
-  low_owner : (number : ℕ) → number < page_count program.code + page_count program.values → started.owners (frame + number) ≡ claim_of slot (16 + number)
-  unfolding started with_leaves with_frame_words
-  low_owner number few = grind (arith, nat_tests)
-
-  high_owner : (number : ℕ) → number < 4
-      → started.owners (frame + (page_count program.code + page_count program.values) + number) ≡ claim_of slot (0x7fffc + number)
-  unfolding started with_leaves with_frame_words
-  high_owner number few = grind (arith, nat_tests)
-
-  root_clean : (word : ℕ) → word ≢ 0 → word ≢ 511 → started.table_words slot 0 word ≡ 0
-  unfolding started with_leaves with_frame_words
-  root_clean word low high = grind (arith, nat_tests, clean 0 word)
-
-  low_clean : (word : ℕ) → is_within 16 (page_count program.code + page_count program.values) word ≡ false → started.table_words slot 1 word ≡ 0
-  unfolding started with_leaves with_frame_words
-  low_clean word out = grind (arith, nat_tests, clean 1 word)
-
-  high_clean : (word : ℕ) → is_within 1020 4 word ≡ false → started.table_words slot 2 word ≡ 0
-  unfolding started with_leaves with_frame_words
-  high_clean word out = grind (arith, nat_tests, clean 2 word)
-
-  pub has_tables : HasTables (with_start h slot frame (Some program)).records slot frame (page_count program.code)
-      (page_count program.code + page_count program.values)
-  unfolding started
-  has_tables = record {
-    to_low = to_low;
-    to_high = to_high;
-    low = low;
-    high = high;
-    low_owner = low_owner;
-    high_owner = high_owner;
-    root_clean = root_clean;
-    low_clean = low_clean;
-    high_clean = high_clean;
-  }
-
--- a program with few words of code has few pages
+-- a program has few pages
 page_few : (words : List ℕ) → length words ≤ 65536 → page_count words ≤ 64
 page_few words few = omega (arith, few)
 
--- what is known of the tables of a slot stays where they stay, and the owners of its frames
-tables_same : (r new : Records) (slot frame code_pages count : ℕ) → HasTables r slot frame code_pages count
-    → ((t w : ℕ) → new.table_words slot t w ≡ r.table_words slot t w) → ((i : ℕ) → i < frame + count + 4 → new.owners i ≡ r.owners i)
-    → HasTables new slot frame code_pages count
-tables_same r new slot frame code_pages count is words owners = record {
-  to_low = words 0 0 ∙ is.to_low;
-  to_high = words 0 511 ∙ is.to_high;
-  low = λ n few. words 1 (16 + n) ∙ is.low n few;
-  high = λ n few. words 2 (1020 + n) ∙ is.high n few;
-  low_owner = λ n few. owners (frame + n) (omega arith) ∙ is.low_owner n few;
-  high_owner = λ n few. owners (frame + count + n) (omega arith) ∙ is.high_owner n few;
-  root_clean = λ w low high. words 0 w ∙ is.root_clean w low high;
-  low_clean = λ w out. words 1 w ∙ is.low_clean w out;
-  high_clean = λ w out. words 2 w ∙ is.high_clean w out;
-}
+-- the numbers of the pages of a program
+module _ (program : Program) (loadable : IsLoadable program) where
+  low_few : low_pages program ≤ 128
+  low_few = omega (arith, page_few program.code loadable.code, page_few program.values loadable.values)
 
--- each slot of a start has its tables
-module _ {Rest : Type 0} (h : Held Rest) (load : Load) (is : IsBootable load) (clean : (s t w : ℕ) → h.records.table_words s t w ≡ 0) where
-  pub tables_started : (count slot : ℕ) (program : Program) → count ≤ length load.starts → slot < count → program_in load slot ≡ Some program
-      → HasTables (with_starts h load count).records slot (pages_before load slot) (page_count program.code) (page_count program.code + page_count program.values)
-  unfolding with_starts
-  tables_started zero slot program within low found = absurd (omega arith)
-  tables_started (suc n) slot program within low found =
-      let fits = start_loadable load slot program is (omega arith) found in
-      let code = page_few program.code fits.code in
-      let values = page_few program.values fits.values in
-      let before = with_starts h load n in
-      elim (cases_lt slot n) [
-        | inl earlier ↦
-            let more = pages_more load slot program (omega arith) found in
-            let rise = pages_rise load (slot + 1) n (omega arith) in
-            tables_same before.records (with_start before n (pages_before load n) (program_in load n)).records slot (pages_before load slot)
-            (page_count program.code) (page_count program.code + page_count program.values)
-            (tables_started n slot program (omega arith) earlier found)
-            (λ t w. other_slot before n (pages_before load n) (program_in load n) slot t w (grind (arith, nat_tests)))
-            (λ i few. earlier_frame before n (pages_before load n) (program_in load n) i (omega (arith, more, rise)))
-        | inr late ↦
-            let same : slot ≡ n = omega arith in
-            rw (← same) (rw found (has_tables (with_starts h load slot) slot (pages_before load slot) program code values
-            (λ t w. later_tables h load slot slot t w (omega arith) ∙ clean slot t w)))
-      ]
+  number_low : (number : ℕ) → number < low_pages program → number_in program (16 + number) ≡ Some number
+  unfolding number_in
+  number_low number less =
+      let here : is_within 16 (low_pages program) (16 + number) ≡ true = grind (arith, nat_tests) in
+      let back : 16 + number - 16 ≡ number = omega arith in
+      rw (here, back) refl
 
--- nothing else of a plant changes
-start_rest : {Rest : Type 0} (h : Held Rest) (slot frame : ℕ) (program : Option Program) → (with_start h slot frame program).rest ≡ h.rest
-unfolding with_frame_words
-start_rest h slot frame (Some program) = refl
-start_rest h slot frame None = refl
+  number_high : (number : ℕ) → number < 4 → number_in program (0x7fffc + number) ≡ Some (low_pages program + number)
+  unfolding number_in
+  number_high number less =
+      let out : is_within 16 (low_pages program) (0x7fffc + number) ≡ false = grind (arith, nat_tests, low_few) in
+      let here : is_within 0x7fffc 4 (0x7fffc + number) ≡ true = grind (arith, nat_tests) in
+      let back : 0x7fffc + number - 0x7fffc ≡ number = omega arith in
+      rw (out, here, back) refl
 
-pub starts_rest : {Rest : Type 0} (h : Held Rest) (load : Load) (count : ℕ) → (with_starts h load count).rest ≡ h.rest
-unfolding with_starts
-starts_rest h load zero = refl
-starts_rest h load (suc n) = start_rest (with_starts h load n) n (pages_before load n) (program_in load n) ∙ starts_rest h load n
+  number_none : (page : ℕ) → is_within 16 (low_pages program) page ≡ false → is_within 0x7fffc 4 page ≡ false → number_in program page ≡ None
+  unfolding number_in
+  number_none page low high = rw (low, high) refl
+
+  page_low : (number : ℕ) → number < low_pages program → page_in program number ≡ 16 + number
+  unfolding page_in
+  page_low number less = rw (lt-ltb number (low_pages program) less) refl
+
+  page_high : (number : ℕ) → page_in program (low_pages program + number) ≡ 0x7fffc + number
+  unfolding page_in
+  page_high number =
+      let past : nat_lt (low_pages program + number) (low_pages program) ≡ false = grind (arith, nat_tests) in
+      let back : low_pages program + number - low_pages program ≡ number = omega arith in
+      rw (past, back) refl
+
+  -- the page of a number has this number
+  number_back : (number : ℕ) → number < started_page_count program → number_in program (page_in program number) ≡ Some number
+  number_back number less = elim (cases_lt number (low_pages program)) [
+    | inl low ↦ rw (page_low number low) (number_low number low)
+    | inr past ↦
+        let back : low_pages program + (number - low_pages program) ≡ number = omega arith in
+        ap (λ (n : ℕ). number_in program (page_in program n)) (sym back)
+        ∙ ap (λ (n : ℕ). number_in program n) (page_high (number - low_pages program))
+        ∙ number_high (number - low_pages program) (omega (arith, less, past)) ∙ ap Some back
+  ]
+
+module _ (load : Load) (is : IsBootable load) (old new : Area) (blank : (number : ℕ) → old number ≡ 0)
+    (filled : IsFilled (boot_map load) (booted_plan load) old new) where
+  r : Records
+  r = records_in (boot_map load) true new
+
+  -- words of tables and owners, as the plan says
+  table_is : (slot table word : ℕ) → slot < length load.starts → table < 3 → word < 1024
+      → (records_in (boot_map load) true new).table_words slot table word ≡ entry_word (boot_map load) (booted_plan load) slot table word
+  unfolding records_in
+  table_is slot table word low kind small =
+      let s : slot < 16 = omega (arith, low, is.most_starts) in
+      rw (lt-ltb slot 16 s, lt-ltb table 3 kind, lt-ltb word 1024 small)
+      (filled.tables slot table word s kind small ∙ rw (lt-ltb slot (length load.starts) low) refl)
+
+  pub table_none : (slot table word : ℕ) → length load.starts ≤ slot → (records_in (boot_map load) true new).table_words slot table word ≡ 0
+  unfolding records_in
+  table_none slot table word past = elim (cases_Bool (nat_lt slot 16 && nat_lt table 3 && nat_lt word 1024)) [
+    | inl there ↦
+        let s : slot < 16 = grind (arith, nat_tests) in
+        let kind : table < 3 = grind (arith, nat_tests) in
+        let small : word < 1024 = grind (arith, nat_tests) in
+        rw there (filled.tables slot table word s kind small
+        ∙ rw (le-ltb slot (length load.starts) past) (blank (1024 * (16 + 3 * slot + table) + word)))
+    | inr out ↦ rw out refl
+  ]
+
+  word_past : (slot table word : ℕ) → 1024 ≤ word → (records_in (boot_map load) true new).table_words slot table word ≡ 0
+  unfolding records_in
+  word_past slot table word past =
+      let out : (nat_lt slot 16 && nat_lt table 3 && nat_lt word 1024) ≡ false = grind (arith, nat_tests) in rw out refl
+
+  owner_is : (frame : ℕ) → frame < load.shape.user_frames
+      → (records_in (boot_map load) true new).owners frame ≡ claim_by (holder_below load (length load.starts) frame)
+  unfolding records_in owner_word
+  owner_is frame less =
+      rw (lt-ltb frame load.shape.user_frames less)
+      (filled.owners frame (omega (arith, less, is.most_frames)) ∙ rw (lt-ltb frame load.shape.user_frames less) refl)
+
+  pub owner_none : (frame : ℕ) → pages_before load (length load.starts) ≤ frame → (records_in (boot_map load) true new).owners frame ≡ 0
+  unfolding records_in
+  owner_none frame past = elim (cases_lt frame load.shape.user_frames) [
+    | inl less ↦ owner_is frame less ∙ ap claim_by (holder_missed load (length load.starts) frame past)
+    | inr behind ↦ rw (le-ltb frame load.shape.user_frames behind) refl
+  ]
+
+  pub cache_owner_none : (entry : ℕ) → (records_in (boot_map load) true new).cache_owners entry ≡ 0
+  unfolding records_in owner_word
+  cache_owner_none entry = elim (cases_lt entry 64) [
+    | inl less ↦
+        let past : nat_lt (960 + entry) load.shape.user_frames ≡ false = grind (arith, nat_tests, is.most_frames) in
+        let place : 10 * 1024 + 960 + entry ≡ 10240 + (960 + entry) = omega arith in
+        rw (lt-ltb entry 64 less) (ap (λ (n : ℕ). new n) place ∙ filled.owners (960 + entry) (omega arith) ∙ rw past refl)
+    | inr behind ↦ rw (le-ltb entry 64 behind) refl
+  ]
+
+  module _ (slot : ℕ) (program : Program) (low : slot < length load.starts) (found : program_in load slot ≡ Some program) where
+    loadable : IsLoadable program
+    loadable = start_loadable load slot program is low found
+
+    -- a page has its frame, and the frame its page
+    frame_there : (number : ℕ) → number < started_page_count program → pages_before load slot + number < load.shape.user_frames
+    frame_there number less =
+        omega (arith, less, pages_more load slot program low found, pages_fit load (slot + 1) is)
+
+    held : (number : ℕ) → number < started_page_count program
+        → holder_below load (length load.starts) (pages_before load slot + number) ≡ Some (record { slot = slot; page = page_in program number })
+    held number less =
+        holder_found load is (length load.starts) slot (pages_before load slot + number) number program (omega arith) low found less refl
+
+    owner_there : (number page : ℕ) → number < started_page_count program → page_in program number ≡ page
+        → r.owners (pages_before load slot + number) ≡ claim_of slot page
+    unfolding r
+    owner_there number page less there =
+        owner_is (pages_before load slot + number) (frame_there number less) ∙ ap claim_by (held number less) ∙ ap (λ (p : ℕ). claim_of slot p) there
+
+    root_is : (word : ℕ) → word < 1024 → r.table_words slot 0 word ≡ entry_word (boot_map load) (booted_plan load) slot 0 word
+    unfolding r
+    root_is word small = table_is slot 0 word low (omega arith) small
+
+    low_is : (word : ℕ) → word < 1024 → r.table_words slot 1 word ≡ page_entry 129 (placed_in program (pages_before load slot) (number_in program word))
+    unfolding r entry_word
+    low_is word small =
+        table_is slot 1 word low (omega arith) small ∙ ap (λ o. page_entry 129 (placed_by o (pages_before load slot) word)) found
+
+    high_is : (word : ℕ) → word < 1024
+        → r.table_words slot 2 word ≡ page_entry 129 (placed_in program (pages_before load slot) (number_in program (0x7fc00 + word)))
+    unfolding r entry_word
+    high_is word small =
+        table_is slot 2 word low (omega arith) small ∙ ap (λ o. page_entry 129 (placed_by o (pages_before load slot) (0x7fc00 + word))) found
+
+    to_low : r.table_words slot 0 0 ≡ pointer_word (17 + 3 * slot + 1)
+    unfolding entry_word
+    to_low = root_is 0 (omega arith) ∙ ap pointer_word (omega arith)
+
+    to_high : r.table_words slot 0 511 ≡ pointer_word (17 + 3 * slot + 2)
+    unfolding entry_word
+    to_high = root_is 511 (omega arith) ∙ ap pointer_word (omega arith)
+
+    low_leaf : (number : ℕ) → number < low_pages program
+        → r.table_words slot 1 (16 + number) ≡ leaf_word (129 + (pages_before load slot + number)) (low_rights (page_count program.code) number)
+    low_leaf number less =
+        low_is (16 + number) (omega (arith, less, low_few program loadable))
+        ∙ ap (λ o. page_entry 129 (placed_in program (pages_before load slot) o)) (number_low program loadable number less)
+
+    high_leaf : (number : ℕ) → number < 4
+        → r.table_words slot 2 (1020 + number) ≡ leaf_word (129 + (pages_before load slot + low_pages program + number)) Values
+    high_leaf number less =
+        let page : 0x7fc00 + (1020 + number) ≡ 0x7fffc + number = omega arith in
+        let frame : 129 + (pages_before load slot + (low_pages program + number)) ≡ 129 + (pages_before load slot + low_pages program + number) = omega arith in
+        let past : nat_lt (low_pages program + number) (page_count program.code) ≡ false = grind (arith, nat_tests) in
+        high_is (1020 + number) (omega arith)
+        ∙ ap (λ (n : ℕ). page_entry 129 (placed_in program (pages_before load slot) (number_in program n))) page
+        ∙ ap (λ o. page_entry 129 (placed_in program (pages_before load slot) o)) (number_high program loadable number less)
+        ∙ rw past (ap (λ (n : ℕ). leaf_word n Values) frame)
+
+    root_clean : (word : ℕ) → word ≢ 0 → word ≢ 511 → r.table_words slot 0 word ≡ 0
+    unfolding r entry_word
+    root_clean word not_low not_high = elim (cases_lt word 1024) [
+      | inl small ↦ root_is word small ∙ grind (arith, nat_tests, not_low, not_high)
+      | inr past ↦ word_past slot 0 word past
+    ]
+
+    low_clean : (word : ℕ) → is_within 16 (low_pages program) word ≡ false → r.table_words slot 1 word ≡ 0
+    unfolding r
+    low_clean word out = elim (cases_lt word 1024) [
+      | inl small ↦
+          let no_stack : is_within 0x7fffc 4 word ≡ false = grind (arith, nat_tests, small) in
+          low_is word small ∙ ap (λ o. page_entry 129 (placed_in program (pages_before load slot) o)) (number_none program loadable word out no_stack)
+      | inr past ↦ word_past slot 1 word past
+    ]
+
+    high_clean : (word : ℕ) → is_within 1020 4 word ≡ false → r.table_words slot 2 word ≡ 0
+    unfolding r
+    high_clean word out = elim (cases_lt word 1024) [
+      | inl small ↦
+          let no_stack : is_within 0x7fffc 4 (0x7fc00 + word) ≡ false = grind (arith, nat_tests, small, out) in
+          let no_low : is_within 16 (low_pages program) (0x7fc00 + word) ≡ false = grind (arith, nat_tests, low_few program loadable) in
+          high_is word small
+          ∙ ap (λ o. page_entry 129 (placed_in program (pages_before load slot) o)) (number_none program loadable (0x7fc00 + word) no_low no_stack)
+      | inr past ↦ word_past slot 2 word past
+    ]
+
+    pub tables_there : HasTables (records_in (boot_map load) true new) slot (pages_before load slot) (page_count program.code) (low_pages program)
+    unfolding r
+    tables_there = record {
+      to_low = to_low;
+      to_high = to_high;
+      low = low_leaf;
+      high = high_leaf;
+      low_owner = λ number less. owner_there number (16 + number) (omega (arith, less)) (page_low program loadable number less);
+      high_owner = λ number less.
+          let place : pages_before load slot + (low_pages program + number) ≡ pages_before load slot + low_pages program + number = omega arith in
+          ap (λ (i : ℕ). r.owners i) (sym place)
+          ∙ owner_there (low_pages program + number) (0x7fffc + number) (omega (arith, less)) (page_high program loadable number);
+      root_clean = root_clean;
+      low_clean = low_clean;
+      high_clean = high_clean;
+    }
+
+-- the words of a program are those of its pages
+module _ (load : Load) (is : IsBootable load) (old new : WordMap) (built : IsBuilt (boot_map load) (booted_plan load) old new)
+    (slot : ℕ) (program : Program) (low : slot < length load.starts) (found : program_in load slot ≡ Some program) where
+  word_there : (number word : ℕ) → number < started_page_count program → word < 1024
+      → new (129 + (pages_before load slot + number)) word ≡ Some (word_in program number word)
+  word_there number word less small =
+      let loadable = start_loadable load slot program is low found in
+      let room : pages_before load slot + number < load.shape.user_frames =
+      omega (arith, less, pages_more load slot program low found, pages_fit load (slot + 1) is) in
+      let held = holder_found load is (length load.starts) slot (pages_before load slot + number) number program (omega arith) low found less refl in
+      built.pages (pages_before load slot + number) word (record { slot = slot; page = page_in program number }) room small held
+      ∙ ap (λ o. Some (word_by o (page_in program number) word)) found
+      ∙ ap (λ o. Some (word_at program o word)) (number_back program loadable number less)
+
+  code_word : (number word : ℕ) → number < page_count program.code → word_in program number word ≡ slice_index program.code (1024 * number + word)
+  unfolding word_in
+  code_word number word less = rw (lt-ltb number (page_count program.code) less) refl
+
+  value_word : (number word : ℕ) → number < page_count program.values
+      → word_in program (page_count program.code + number) word ≡ slice_index program.values (1024 * number + word)
+  unfolding word_in
+  value_word number word less =
+      let past : nat_lt (page_count program.code + number) (page_count program.code) ≡ false = grind (arith, nat_tests) in
+      let here : nat_lt (page_count program.code + number) (low_pages program) ≡ true = grind (arith, nat_tests, less) in
+      let back : page_count program.code + number - page_count program.code ≡ number = omega arith in
+      rw (past, here, back) refl
+
+  stack_word : (number word : ℕ) → word_in program (low_pages program + number) word ≡ 0
+  unfolding word_in
+  stack_word number word =
+      let past : nat_lt (low_pages program + number) (page_count program.code) ≡ false = grind (arith, nat_tests) in
+      let out : nat_lt (low_pages program + number) (low_pages program) ≡ false = grind (arith, nat_tests) in
+      rw (past, out) refl
+
+  pub words_there : HasWords new (pages_before load slot) program
+  words_there = record {
+    code = λ number word less small. word_there number word (omega (arith, less)) small ∙ ap Some (code_word number word less);
+    values = λ number word less small.
+        let place : 129 + (pages_before load slot + page_count program.code + number)
+        ≡ 129 + (pages_before load slot + (page_count program.code + number)) = omega arith in
+        ap (λ (f : ℕ). new f word) place ∙ word_there (page_count program.code + number) word (omega (arith, less)) small
+        ∙ ap Some (value_word number word less);
+    stack = λ number word less small.
+        let place : 129 + (pages_before load slot + low_pages program + number) ≡ 129 + (pages_before load slot + (low_pages program + number)) = omega arith in
+        ap (λ (f : ℕ). new f word) place ∙ word_there (low_pages program + number) word (omega (arith, less)) small
+        ∙ ap Some (stack_word number word);
+  }

@@ -18,14 +18,13 @@ use Rattle.record_layouts.specs.Pages.{is_mapped, pages_of}
 use Rattle.record_layouts.specs.Spelling.{lies_between}
 use Rattle.record_layouts.specs.Unix.State.{AtKernel, OnTty, Process, in_use, is_among, is_named, is_named_by, silent_terminal, start_of, started_as, started_description, started_descriptors, started_pages, started_process}
 use Rattle.process_table.proofs.Least.{least_found, least_none}
-use Rattle.kernel_traps.specs.Boot.{IsBootable, program_in}
-use Rattle.kernel_traps.specs.BootPages.{pages_before}
+use Rattle.kernel_traps.specs.Boot.{IsBootable, program_in, pages_before}
 use Rattle.kernel_traps.specs.BootRecords.{booted_description, booted_exit, booted_signals, description_for, started_descs, started_record}
 use Rattle.kernel_traps.specs.BootState.{IsBooted}
 use Rattle.kernel_traps.specs.BootTables.{HasWords}
 use Rattle.kernel_traps.proofs.BootFrames.{is_mapped_there, pages_there}
 use Rattle.kernel_traps.proofs.BootNumbers.{process_there, slot_live, slot_none, state_small}
-use Rattle.kernel_traps.proofs.BootPages.{start_loadable, start_there}
+use Rattle.kernel_traps.proofs.BootLayout.{start_loadable, start_there}
 
 -- a process with a descriptor that names the description is among these, or none is
 named_found : (processes : ℕ → Option Process) (number first count k : ℕ) → first ≤ k → k < first + count → is_named_by number (processes k) ≡ true

@@ -20,11 +20,13 @@ pub mod Decoding
 pub mod BootStores
 pub mod BootRecords
 pub mod BootSets
+pub mod BootFilling
+pub mod BootCopying
+pub mod BootBuilt
 pub mod BootReads
-pub mod BootPages
+pub mod BootLayout
 pub mod BootReady
 pub mod BootTables
-pub mod BootWords
 pub mod BootHeld
 pub mod BootNumbers
 pub mod BootFrames

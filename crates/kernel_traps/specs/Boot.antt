@@ -1,5 +1,5 @@
 -- What a load must be so that a machine can start with it.
-use Rattle.std.specs.Prelude.{ℕ, ◌<◌, ◌≤◌, List, length, All, slice_get, Option, option_and_then}
+use Rattle.std.specs.Prelude.{ℕ, ◌<◌, ◌≤◌, List, length, take, All, slice_get, Option, option_and_then}
 use Rattle.ow_base.specs.World.{start_pages}
 use Rattle.ow_base.specs.declared.worlds.Load.{Load}
 use Rattle.ow_base.specs.declared.worlds.Program.{Program}
@@ -28,3 +28,8 @@ pub record IsBootable (load : Load) : Type 0 where
 -- the program that starts in a slot
 unfoldable pub program_in : Load → (slot : ℕ) → Option Program
 program_in load slot = option_and_then (λ (start : Started). slice_get load.programs start.program) (slice_get load.starts slot)
+
+-- The pages of the starts before one, none before the first. A start has its pages in the user frames from this number
+-- on, so all pages lie in the least frames, in rising order, start after start.
+abbrev pub pages_before : Load → (slot : ℕ) → ℕ
+pages_before load slot = start_pages load.programs (take slot load.starts)

@@ -4,11 +4,10 @@ use Rattle.ow_base.specs.World.{page_count}
 use Rattle.ow_base.specs.declared.worlds.Load.{Load}
 use Rattle.ow_base.specs.declared.worlds.Program.{Program}
 use Rattle.record_layouts.specs.Held.{Records}
-use Rattle.record_layouts.specs.Places.{IsRecordId, is_id}
 use Rattle.record_layouts.specs.At.{at, fitted}
+use Rattle.record_layouts.specs.Places.{IsRecordId, is_id}
 use Rattle.record_layouts.specs.declared.places.RecordId.{RecordId}
-use Rattle.kernel_traps.specs.Boot.{program_in}
-use Rattle.kernel_traps.specs.BootPages.{pages_before}
+use Rattle.kernel_traps.specs.Boot.{program_in, pages_before}
 use Rattle.kernel_traps.specs.BootRecords.{booted_record}
 use Rattle.kernel_traps.specs.BootTables.{HasTables}
 

@@ -10,9 +10,10 @@ pub mod User
 pub mod Boot
 pub mod BootStores
 pub mod BootRecords
+pub mod BootPlan
 pub mod BootSets
-pub mod BootPages
 pub mod BootTables
+pub mod BootLayout
 pub mod BootState
 pub mod Traps
 pub mod Due

@@ -1,51 +1,51 @@
 //! How a machine that is ready becomes a kernel that runs.
-ghost use Rattle.std.specs.Prelude.{◌≡◌, ℕ, ◌<◌, Some, length};
+ghost use Rattle.std.specs.Prelude.{◌≡◌, ℕ, ◌<◌, Some, true, length};
 ghost use Rattle.ow_base.specs.declared.worlds.Program.{Program};
 ghost use Rattle.phys_memory.specs.Memory.{words_of};
-ghost use Rattle.record_layouts.specs.Held.{beside};
-ghost use Rattle.record_layouts.specs.Overlay.{area_at};
 ghost use Rattle.record_layouts.specs.Unix.State.{start_of};
 ghost use Rattle.ow_plant.specs.State.{IsReady};
-ghost use Rattle.intent_store.specs.Live.{records_held, rest_of};
+ghost use Rattle.intent_store.specs.Live.{is_able, records_held, rest_of};
 ghost use Rattle.kernel_traps.specs.Plants.{IsSound, unix_at};
-ghost use Rattle.kernel_traps.specs.Boot.{IsBootable, program_in};
-ghost use Rattle.kernel_traps.specs.BootPages.{pages_before};
-ghost use Rattle.kernel_traps.specs.BootRecords.{booted_record};
-ghost use Rattle.kernel_traps.specs.BootSets.{HasRecords, unrecorded};
+ghost use Rattle.kernel_traps.specs.Boot.{IsBootable, pages_before, program_in};
+ghost use Rattle.kernel_traps.specs.BootLayout.{boot_map, booted_plan};
+ghost use Rattle.kernel_traps.specs.BootSets.{IsBuilt};
 ghost use Rattle.kernel_traps.specs.BootState.{IsBooted};
 ghost use Rattle.kernel_traps.specs.BootStores.{HasNoneAtBoot, IsBooting};
 ghost use Rattle.kernel_traps.specs.BootTables.{HasWords};
 ghost use Rattle.kernel_traps.specs.Turning.{IsSameMachine};
 
 mod blueprint;
+mod building;
 mod laws;
-mod pages;
+mod layout;
 mod records;
 mod setting;
-mod stores;
 
+use building::build_kernel;
 use intent_store::Live;
 pub use laws::worlds_can_boot;
 use ow_base::{Load, Panicked};
 use ow_plant::Plant;
-use pages::start_programs;
-use setting::set_records;
+use record_layouts::MemoryMap;
 
-// The first frame of half A.
-const HALF_A: u32 = 1;
-
-// Sets all records, as a load says.
-fn set_load(plant: &mut Plant, load: &Load)
+// The frames of the kernel that boots are those of half A, and what a load begins with is built in them.
+fn build_load(plant: &mut Plant, load: &Load)
     requires booting { IsBooting plant.old }
     requires load { IsBootable load.now }
-    ensures records { HasRecords (area_at (words_of plant.new.memory) 1) (booted_record load.now) 467 }
-    ensures kept { unrecorded (area_at (words_of plant.new.memory) 1) ≡ unrecorded (area_at (words_of plant.old.memory) 1) }
-    ensures same_beside { beside 1 (words_of plant.new.memory) ≡ beside 1 (words_of plant.old.memory) }
+    requires shape { plant.old.shape ≡ load.now.shape }
+    ensures built { IsBuilt (boot_map load.now) (booted_plan load.now) (words_of plant.old.memory) (words_of plant.new.memory) }
     ensures same_rest { rest_of plant.new ≡ rest_of plant.old }
-    ensures booting { IsBooting plant.new }
+    ensures able { is_able plant.new ≡ true }
 {
+    let map = MemoryMap {
+        area_base: 1,
+        cache_base: 65,
+        pool_base: 129,
+        user_frames: load.shape.user_frames,
+        sectors: load.shape.sectors,
+    };
     let mut live = Live::new(plant);
-    match set_records(&mut live, HALF_A, load) {
+    match build_kernel(&mut live, &map, load) {
         Ok(()) => {}
         Err(Panicked) => unreachable!(),
     }
@@ -66,6 +66,5 @@ pub fn boot(plant: &mut Plant, load: &Load)
     ensures no_steps { plant.new.steps ≡ 0 }
     ensures no_traps { plant.new.traps ≡ 0 }
 {
-    set_load(plant, load);
-    start_programs(plant, load);
+    build_load(plant, load);
 }

@@ -10,11 +10,12 @@ ghost use Rattle.record_layouts.specs.File.{FitsFile};
 ghost use Rattle.record_layouts.specs.Cache.{FitsCache};
 ghost use Rattle.record_layouts.specs.Term.{FitsTerm};
 ghost use Rattle.record_layouts.specs.Row.{FitsRow};
+ghost use Rattle.record_layouts.specs.Patch.{FitsAny, IsOfKind};
+ghost use Rattle.record_layouts.specs.Places.{IsRecordId};
 ghost use Rattle.process_table.specs.Patches.{blank_bank as empty_bank};
 ghost use Rattle.kernel_traps.specs.Boot.{IsBootable, IsLoadable, program_in};
-ghost use Rattle.kernel_traps.specs.BootRecords.{booted_description, booted_exit, booted_head, booted_process, booted_signals, started_record as record_of_start, free_process, unused_file, empty_entry, silent_record, blank_row_record};
+ghost use Rattle.kernel_traps.specs.BootRecords.{booted_description, booted_exit, booted_head, booted_process, booted_record, booted_signals, started_record as record_of_start, free_process, unused_file, empty_entry, silent_record, blank_row_record};
 
-use super::blueprint::Blueprint;
 use ow_base::{Bank, Load, Program, Regs};
 use record_layouts::{
     AnyRec, CacheRec, DescRec, ExitRec, FileRec, HeadRec, ProcRec, RecordId, RowRec, SigRec,
@@ -265,25 +266,23 @@ fn blank_row(place: u32) -> RowRec
     }
 }
 
-impl Blueprint for Load {
-    ghost use Rattle.kernel_traps.specs.Boot.{IsBootable};
-    ghost use Rattle.kernel_traps.specs.BootRecords.{booted_record};
-
-    ghost record_of = { booted_record };
-
-    ghost stands = { IsBootable };
-
-    fn record(&self, id: RecordId) -> AnyRec {
-        match id {
-            RecordId::Head => AnyRec::Head(head_record(self)),
-            RecordId::Proc(slot) => AnyRec::Proc(process_record(self, slot)),
-            RecordId::Sig(slot) => AnyRec::Sig(signal_record(self, slot)),
-            RecordId::Desc(index) => AnyRec::Desc(description_record(self, index)),
-            RecordId::File(_) => AnyRec::File(no_file()),
-            RecordId::Cache(_) => AnyRec::Cache(empty_cache()),
-            RecordId::Term(tty) => AnyRec::Term(silent_terminal(tty)),
-            RecordId::Row(place) => AnyRec::Row(blank_row(place)),
-            RecordId::Exit(pid) => AnyRec::Exit(exit_record(self, pid)),
-        }
+/// The record that a new kernel begins with, by its id.
+pub(crate) fn boot_record(load: &Load, id: RecordId) -> AnyRec
+    requires load { IsBootable load.now }
+    requires id { IsRecordId id }
+    ensures is { result ≡ booted_record load.now id }
+    ensures kind { IsOfKind id result }
+    ensures fits { FitsAny result }
+{
+    match id {
+        RecordId::Head => AnyRec::Head(head_record(load)),
+        RecordId::Proc(slot) => AnyRec::Proc(process_record(load, slot)),
+        RecordId::Sig(slot) => AnyRec::Sig(signal_record(load, slot)),
+        RecordId::Desc(index) => AnyRec::Desc(description_record(load, index)),
+        RecordId::File(_) => AnyRec::File(no_file()),
+        RecordId::Cache(_) => AnyRec::Cache(empty_cache()),
+        RecordId::Term(tty) => AnyRec::Term(silent_terminal(tty)),
+        RecordId::Row(place) => AnyRec::Row(blank_row(place)),
+        RecordId::Exit(pid) => AnyRec::Exit(exit_record(load, pid)),
     }
 }

@@ -128,7 +128,7 @@ pub(crate) fn set_records<B: Blueprint, S: WordStore>(
     requires able { S.able store.old ≡ true }
     requires area { HasArea (S.words store.old) base }
     requires stands { B.stands blueprint.now }
-    ensures records { OnOk result (HasRecords (area_at (S.words store.new) base) (B.record_of blueprint.now) RECORDS) }
+    ensures records { OnOk result (HasRecords (area_at (S.words store.new) base) ((B.plan blueprint.now).record_of) RECORDS) }
     ensures kept { OnOk result (unrecorded (area_at (S.words store.new) base) ≡ unrecorded (area_at (S.words store.old) base)) }
     ensures there { HasArea (S.words store.new) base }
     ensures beside { beside base (S.words store.new) ≡ beside base (S.words store.old) }

@@ -14,7 +14,7 @@ loop-number-preserved g c =
     let law = c.records_lie_apart.ensures in
     record {
       able = c.in_ok-set_record.ensures.stays;
-      records = records_more old new id rec there set (g.B.Blueprint.record_of c.args.blueprint.now) c.loop-number.number law.apart
+      records = records_more old new id rec there set (g.B.Blueprint.plan c.args.blueprint.now).record_of c.loop-number.number law.apart
           c.loop-number.invariant.records c.numbered_id-id.ensures.number c.record-rec.ensures.is;
       kept = unrecorded_stay old new id rec there set (law.changed id there) ∙ c.loop-number.invariant.kept;
       there = c.set_record.ensures.there;

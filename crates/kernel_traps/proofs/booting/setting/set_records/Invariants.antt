@@ -8,7 +8,7 @@ use Rattle.kernel_traps.proofs.booting.setting.set_records.Given as goal
 abbrev pub invariant-loop-number : goal.invariant-loop-number
 invariant-loop-number g l = record {
   able : g.S.WordStore.able l.store ≡ true;
-  records : HasRecords (area_at (g.S.WordSource.words l.store) l.base) (g.B.Blueprint.record_of l.blueprint) l.number;
+  records : HasRecords (area_at (g.S.WordSource.words l.store) l.base) (g.B.Blueprint.plan l.blueprint).record_of l.number;
   kept : unrecorded (area_at (g.S.WordSource.words l.store) l.base) ≡ unrecorded (area_at (g.S.WordSource.words l.fn.store) l.base);
   there : HasArea (g.S.WordSource.words l.store) l.base;
   beside : beside l.base (g.S.WordSource.words l.store) ≡ beside l.base (g.S.WordSource.words l.fn.store);
