@@ -14,7 +14,8 @@ use Rattle.record_layouts.specs.Unix.Calls.{ended_as, call_entered, piece_of, tr
 use Rattle.record_layouts.specs.Decode.{Context, InKernel, InUser, process_of, processes_of, slot_by, unix_of}
 use Rattle.record_layouts.specs.Held.{Records, with_items}
 use Rattle.record_layouts.specs.Unix.Signals.{signalled}
-use Rattle.record_layouts.specs.Sound.{AreNumbered, IsIn}
+use Rattle.record_layouts.specs.Pages.{is_mapped}
+use Rattle.record_layouts.specs.Sound.{AreNumbered, AreSound, IsIn}
 use Rattle.record_layouts.specs.Unix.Traps.{after_trap, came_of, or_zero, pid_of, steps_in}
 use Rattle.record_layouts.specs.Unix.Turn.{closed, idled}
 use Rattle.record_layouts.specs.Unix.State.{Process, Unix}
@@ -29,14 +30,14 @@ use Rattle.process_table.proofs.Signalling.{signal_unix}
 use Rattle.syscalls.specs.declared.service.Service.{Service}
 use Rattle.syscalls.specs.Done.{IsDone}
 use Rattle.syscalls.specs.Planned.{Planned, PlanOnce, PlanWrite}
-use Rattle.syscalls.specs.Serving.{IsDoable, plan_of}
+use Rattle.syscalls.specs.Serving.{CanCall, IsDoable, plan_of}
 use Rattle.syscalls.proofs.Becoming.{caller_decodes}
 use Rattle.syscalls.proofs.Exported.{entered_then, goes_on_then}
 use Rattle.ow_plant.specs.State.{PlantState, entered, risen}
 use Rattle.intent_store.specs.Live.{records_held}
 use Rattle.intent_store.proofs.Outcomes.{on_err}
 use Rattle.kernel_traps.specs.Plants.{IsHeldSound, IsInTrap, IsSound, tapes_of, unix_at}
-use Rattle.kernel_traps.specs.Ending.{EndsTrap, HasStep, IsEnded, MayBeLeftOfPlan}
+use Rattle.kernel_traps.specs.Ending.{CanBeServed, EndsTrap, HasStep, IsEnded, MayBeLeftOfPlan}
 use Rattle.kernel_traps.specs.Traps.{CanHave, IsHad, IsInMode, IsLiveAs, IsPlanOf, IsSlotOf, IsTrapMade, MayBeLeftOfTrap, begun_by, plan_for, served_items, signal_items_by, user_before}
 use Rattle.kernel_traps.proofs.Entering.{MayTrap, begins, steps_begun}
 use Rattle.kernel_traps.proofs.Plans.{call_ends, ended_ends, piece_ends, saved_ends, served_ends, signal_ends_trap}
@@ -278,6 +279,37 @@ trap_begun s b t slot plan has =
       begins s t has.may,
       subst (λ (plan : Planned). HasStep plan s.steps now.steps) (sym has.is.planned) (has_step s t slot has.is.head has.is.process now.steps (steps_begun s t has.may)),
     )
+
+-- the bytes of a process can be read for its calls
+can_call : (r : Records) (slot : ℕ) (process : ProcRec) → AreSound r → IsIn r slot process → CanCall r slot
+can_call r slot process sound is = record {
+  within = is.within;
+  complete = sound.complete;
+  mapped = subst (λ (held : Option ProcRec). IfSome held (λ p. is_mapped r slot p ≡ true)) (sym is.there) (sound.mapped.mapped slot process is);
+}
+
+served_by : (r : Records) (slot : ℕ) (plan : Planned) → CanCall r slot → CanBeServed r slot plan
+served_by r slot (PlanOnce items) can = tt
+served_by r slot (PlanWrite tty from len items) can = can
+
+once_served : (r : Records) (slot : ℕ) (plan : Planned) (items : List PatchItem) → plan ≡ PlanOnce items → CanBeServed r slot plan
+once_served r slot plan items is = subst (λ (plan : Planned). CanBeServed r slot plan) (sym is) tt
+
+-- only a call, or a further piece of one, reads bytes of its process
+begun_served : (s : PlantState) (t : Trap) (slot : ℕ) (plan : Planned) → AreSound (records_held (begun_by s t)) → IsPlanOf (begun_by s t) t slot plan
+    → CanBeServed (records_held (begun_by s t)) slot plan
+begun_served s (trap.Entry pid) slot plan sound is = served_by _ slot plan (can_call _ slot is.process sound is.has.seat.0)
+begun_served s (trap.Piece pid) slot plan sound is = served_by _ slot plan (can_call _ slot is.process sound is.has.seat.0)
+begun_served s (trap.Fault pid cause) slot plan sound is = once_served _ slot plan _ is.planned
+begun_served s (trap.Slice pid) slot plan sound is = once_served _ slot plan _ is.planned
+begun_served s (trap.Signal pid signal) slot plan sound is = once_served _ slot plan _ is.planned
+begun_served s trap.Idle slot plan sound is = once_served _ slot plan _ is.planned
+begun_served s (trap.Closing (Some pid)) slot plan sound is = once_served _ slot plan _ is.planned
+begun_served s (trap.Closing None) slot plan sound is = once_served _ slot plan _ is.planned
+
+pub trap_served : (s b : PlantState) (t : Trap) (slot : ℕ) (plan : Planned) → HasBegun s b t slot plan → CanBeServed (records_held b) slot plan
+trap_served s b t slot plan has =
+    subst (λ (b : PlantState). CanBeServed (records_held b) slot plan) (sym has.same) (begun_served s t slot plan (begins s t has.may).held.records has.is)
 
 pub trap_ends : (s b : PlantState) (t : Trap) (slot : ℕ) (plan : Planned) → HasBegun s b t slot plan → EndsTrap (records_held b) b.traps plan
 trap_ends s b t slot plan has =

@@ -1,5 +1,5 @@
 use Rattle.syscalls.specs.Serving.{plan_of}
-use Rattle.kernel_traps.proofs.TrapKinds.{has_begun, trap_begun, trap_done, trap_ends, trap_left}
+use Rattle.kernel_traps.proofs.TrapKinds.{has_begun, trap_begun, trap_done, trap_ends, trap_left, trap_served}
 use Rattle.kernel_traps.proofs.traps.make_trap.Goals as goal
 
 pub end_trap-requires-clause-trap : goal.end_trap-requires-clause-trap
@@ -21,6 +21,17 @@ end_trap-requires-clause-plan c =
     let slot = c.slot_for-slot.result in
     let plan = plan_of c.service_for-service.result in
     trap_ends s b t slot plan (has_begun s b t c.came.result c.pid.result c.unwrap_or.result slot plan c.enter.ensures c.came.ensures c.pid.ensures c.unwrap_or.ensures
+    (record { sound = c.requires.sound; within = c.requires.within; most = c.fits_shape.ensures.few_steps; few = c.requires.traps })
+    c.slot_for-slot.ensures c.service_for-service.ensures.plan)
+
+pub end_trap-requires-clause-can : goal.end_trap-requires-clause-can
+end_trap-requires-clause-can c =
+    let s = c.args.plant.now in
+    let b = c.enter.new.self in
+    let t = c.args.trap in
+    let slot = c.slot_for-slot.result in
+    let plan = plan_of c.service_for-service.result in
+    trap_served s b t slot plan (has_begun s b t c.came.result c.pid.result c.unwrap_or.result slot plan c.enter.ensures c.came.ensures c.pid.ensures c.unwrap_or.ensures
     (record { sound = c.requires.sound; within = c.requires.within; most = c.fits_shape.ensures.few_steps; few = c.requires.traps })
     c.slot_for-slot.ensures c.service_for-service.ensures.plan)
 
