@@ -20,7 +20,7 @@ use Rattle.ow_base.specs.declared.worlds.Ending.{Ending}
 use Rattle.ow_base.specs.declared.worlds.Ending.TheVariants.{Done, Budget, Restarted}
 use Rattle.ow_base.specs.declared.worlds.PanicRecord.{PanicRecord}
 use Rattle.ow_plant.specs.State.{PlantState}
-use Rattle.world_file.specs.WorldLines.{pieces, words, key_of, number_of, word_of, is_name, words_of}
+use Rattle.world_file.specs.WorldLines.{pieces, tokens, key_of, number_of, word_of, is_name, words_of}
 use Rattle.world_file.specs.WorldReasons.{first_reason}
 use Rattle.world_file.specs.WorldReading.{with_line, read_lines, read_text}
 use Rattle.world_file.specs.WorldRefusals.{IsRefused, IsBuilt}
@@ -34,7 +34,7 @@ use Rattle.otherworld.specs.Rows.{worked_world, exit_seven, exit_seven_text, exi
 
 -- `unfolding rows` lets `refl` compute the reading of a text, a run and a report
 unfoldable pub rows : Unit {0}
-unfolding digits hex8 escaped_byte immediate_act register_act branch_act load_act store_act system_act act_of gone_to after_load after_store acted after_fetch user_step page_space is_readable bytes_at started_rights started_byte started_pages started_process started_as started_description start_of least_from deliverable call_goes_on chosen is_any_live settled trapped answered stays_in ended_as description_of tty_write write_entry exit_entry called call_entered continued piece_of step_of stepped user_turn idled turn_at turn ending_of closed blank_screen on_next_line printed drawn screen_of head_text status_words process_lines out_lines trimmed row_lines screen_text terminal_text report_of pieces words key_of number_of word_of is_name words_of first_reason with_line read_lines read_text worked_world exit_seven exit_seven_text exit_seven_report hi_on hi hi_text hi_report three_hi three_hi_text three_hi_report few_frames_text no_end_text turned after
+unfolding digits hex8 escaped_byte immediate_act register_act branch_act load_act store_act system_act act_of gone_to after_load after_store acted after_fetch user_step page_space is_readable bytes_at started_rights started_byte started_pages started_process started_as started_description start_of least_from deliverable call_goes_on chosen is_any_live settled trapped answered stays_in ended_as description_of tty_write write_entry exit_entry called call_entered continued piece_of step_of stepped user_turn idled turn_at turn ending_of closed blank_screen on_next_line printed drawn screen_of head_text status_words process_lines out_lines trimmed row_lines screen_text terminal_text report_of pieces tokens key_of number_of word_of is_name words_of first_reason with_line read_lines read_text worked_world exit_seven exit_seven_text exit_seven_report hi_on hi hi_text hi_report three_hi three_hi_text three_hi_report few_frames_text no_end_text turned after
 rows = tt
 
 -- the texts of the worlds
