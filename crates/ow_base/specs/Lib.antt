@@ -1,4 +1,4 @@
--- The definitions that contracts cite: a Unix that never panics, and the texts in and out of it.
+-- The definitions that contracts cite: a Unix that never panics, the texts in and out of it, and images of memory.
 pub mod Words
 pub mod Seals
 pub mod UserStep
@@ -10,3 +10,4 @@ pub mod World
 pub mod Outside
 pub mod Fakes
 pub mod Entries
+pub mod Images

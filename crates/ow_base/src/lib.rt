@@ -14,8 +14,8 @@ mod worlds;
 
 pub use fakes::{FixedSink, FixedSource, MemSink, MemSource};
 pub use machine::{
-    Access, AreaId, Bank, Came, Efault, Errno, Fault, Now, PageCause, Panicked, Phys, Regs, Rights,
-    Shape, Width,
+    Access, AreaId, Bank, Came, Efault, Errno, FRAME_WORDS, Fault, Now, PageCause, Panicked, Phys,
+    Regs, Rights, Shape, Width,
 };
 pub use memory::WordSource;
 pub use numerals::{decimal, hex8};

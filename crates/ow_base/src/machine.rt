@@ -4,6 +4,9 @@ ghost use Rattle.std.specs.Prelude.{◌≡◌, ◌<◌};
 
 use std::marker::Model;
 
+/// The words of a frame of memory.
+pub const FRAME_WORDS: u32 = 1024;
+
 /// The registers x1 to x31. x0 is always 0 and is not kept.
 #[derive(Clone, Copy, Debug, PartialEq, Eq)]
 pub struct Regs {

@@ -1,6 +1,7 @@
 //! Plain data of worlds and runs: what a world text says, and what a panic leaves.
 
-use crate::machine::{AreaId, Shape};
+use crate::machine::{AreaId, FRAME_WORDS, Shape};
+use crate::memory::WordSource;
 use crate::sequence::List;
 use arrayvec::ArrayVec;
 
@@ -146,6 +147,24 @@ pub struct PanicRecord {
     pub lines: ArrayVec<Damage, 16>,
     pub damage: ArrayVec<Hurt, 16>,
     pub broken: ArrayVec<u32, 4>,
+}
+
+/// The words of memory when the panic came.
+impl WordSource for PanicRecord {
+    ghost use Rattle.ow_base.specs.Images.{words_in};
+
+    ghost words = { λ r. words_in r.image };
+
+    #[tactic(auto, unfolding(crate::specs::Images::words_in))]
+    fn load(&self, frame: u32, word: u32) -> Option<u32> {
+        let image = self.image.items();
+        let frame = frame as usize;
+        if frame < image.len() / FRAME_WORDS as usize {
+            Some(image[FRAME_WORDS as usize * frame + word as usize])
+        } else {
+            None
+        }
+    }
 }
 
 /// A world: the load, the bytes that are typed on the two terminals, and the panics.
