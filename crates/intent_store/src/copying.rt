@@ -7,8 +7,8 @@ ghost use Rattle.intent_store.specs.Blocks.{IsPartlyChanged, ReadsAs, partly_cha
 ghost use Rattle.ow_plant.specs.declared.refusal.Refusal.TheVariants.{Store};
 ghost use Rattle.intent_store.specs.Stores.{KeepsUnstored};
 
-use crate::word_store::{FRAME, WordStore, store_area};
-use ow_base::{Panicked, WordSource};
+use crate::word_store::{WordStore, store_area};
+use ow_base::{FRAME_WORDS, Panicked, WordSource};
 use record_layouts::{Change, GATE, PAYLOAD, change_at, open_end};
 
 /// Carries out the open intent of the area that begins at frame `base`, and closes it. Where none is open nothing is done.
@@ -111,6 +111,6 @@ fn word_of<W: WordStore>(store: &W, base: u32, number: u32) -> u32
     ensures { result ≡ area_at (W.words store.now) base number }
 {
     store
-        .load(base + number / FRAME, number % FRAME)
+        .load(base + number / FRAME_WORDS, number % FRAME_WORDS)
         .unwrap_or(0)
 }

@@ -4,8 +4,8 @@ ghost use Rattle.ow_base.specs.Sv32.{word_or_zero};
 ghost use Rattle.intent_store.specs.Stores.{KeepsUnstored, IsBegun, with_first};
 ghost use Rattle.ow_plant.specs.declared.refusal.Refusal.TheVariants.{Store};
 
-use crate::word_store::{FRAME, WordStore};
-use ow_base::{Panicked, WordSource};
+use crate::word_store::WordStore;
+use ow_base::{FRAME_WORDS, Panicked, WordSource};
 
 /// Makes all words of a frame that is there 0, the first one first.
 pub(crate) fn zero_frame<W: WordStore>(store: &mut W, frame: u32) -> Result<(), Panicked>
@@ -20,7 +20,7 @@ pub(crate) fn zero_frame<W: WordStore>(store: &mut W, frame: u32) -> Result<(), 
     ensures allowed { OnErr result (W.may_refuse (W.rest store.old) ≡ true) }
     ensures place { W.place store.new ≡ W.place store.old }
 {
-    for word in 0..FRAME {
+    for word in 0..FRAME_WORDS {
         store.store(frame, word, 0)?;
     }
     Ok(())
@@ -39,7 +39,7 @@ pub(crate) fn copy_frame<W: WordStore>(store: &mut W, from: u32, to: u32) -> Res
     ensures allowed { OnErr result (W.may_refuse (W.rest store.old) ≡ true) }
     ensures place { W.place store.new ≡ W.place store.old }
 {
-    for place in 0..FRAME {
+    for place in 0..FRAME_WORDS {
         let value = word_at(store, from, place);
         store.store(to, place, value)?;
     }

@@ -6,10 +6,7 @@ ghost use Rattle.record_layouts.specs.Overlay.{HasArea, area_at};
 ghost use Rattle.ow_plant.specs.declared.refusal.Refusal.TheVariants.{Store};
 ghost use Rattle.intent_store.specs.Stores.{KeepsUnstored};
 
-use ow_base::{Panicked, WordSource};
-
-// The words of a frame.
-pub(crate) const FRAME: u32 = 1024;
+use ow_base::{FRAME_WORDS, Panicked, WordSource};
 
 /// Memory of which single words can be stored, each by a store that may be refused.
 ///
@@ -72,5 +69,5 @@ pub fn store_area<W: WordStore>(
     ensures allowed { OnErr result (W.may_refuse (W.rest store.old) ≡ true) }
     ensures place { W.place store.new ≡ W.place store.old }
 {
-    store.store(base + number / FRAME, number % FRAME, value)
+    store.store(base + number / FRAME_WORDS, number % FRAME_WORDS, value)
 }

@@ -13,9 +13,7 @@ use crate::points::PanicPoints;
 use crate::refusal::Refusal;
 use crate::terminals::Tty;
 use crate::user_memory::UserMemory;
-use ow_base::{
-    AreaId, Bank, Came, KeyByte, Now, PanicRecord, Panicked, Point, Regs, Shape, WordSource,
-};
+use ow_base::{AreaId, Bank, Came, FRAME_WORDS, KeyByte, Now, PanicRecord, Panicked, Point, Regs, Shape, WordSource};
 use panic_handover::HandOver;
 use phys_memory::Memory;
 use rv32_user::{StepEnd, step};
@@ -26,7 +24,7 @@ use std::marker::Model;
 const SV32: u32 = 1 << 31;
 
 /// The words of a frame.
-const FRAME_LENGTH: usize = 1024;
+const FRAME_LENGTH: usize = FRAME_WORDS as usize;
 
 /// How often things were done. Each count stops at its last value.
 #[derive(Clone, Copy)]

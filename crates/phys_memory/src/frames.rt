@@ -2,11 +2,12 @@
 ghost use Rattle.std.specs.Prelude.{◌≡◌, ℕ, ◌+◌, ◌*◌, ◌^◌, ◌<◌, ◌≤◌, [], ◌++◌, drop, IfOk, length, slice_index, slice_set};
 ghost use Rattle.phys_memory.specs.Memory.{blank_frames};
 
+use ow_base::FRAME_WORDS;
 use std::alloc::{AllocError, Global};
 use std::marker::Model;
 
 /// The words of a frame.
-const FRAME_LENGTH: usize = 1024;
+const FRAME_LENGTH: usize = FRAME_WORDS as usize;
 
 /// Frames of 1,024 words that lie one behind the other. Contracts see the list of their words.
 #[derive(Drop)]

@@ -11,21 +11,21 @@ use crate::file::FileRec;
 use crate::head::HeadRec;
 use crate::intent::{Area, Gate};
 use crate::memory_map::MemoryMap;
-use crate::places::{FRAME, RecordId, address};
+use crate::places::{RecordId, address};
 use crate::proc::ProcRec;
 use crate::row::RowRec;
 use crate::sig::SigRec;
 use crate::term::TermRec;
 use crate::view::RecordView;
-use ow_base::WordSource;
+use ow_base::{FRAME_WORDS, WordSource};
 
 // The first word that names the owner of a user frame, and the first that names the owner of a cache entry.
-const OWNERS: u32 = 10 * FRAME;
+const OWNERS: u32 = 10 * FRAME_WORDS;
 
 const CACHE_OWNERS: u32 = OWNERS + 960;
 
 // The first word of the page tables, and how many tables each slot has.
-const TABLES: u32 = 16 * FRAME;
+const TABLES: u32 = 16 * FRAME_WORDS;
 
 const TABLES_OF_SLOT: u32 = 3;
 
@@ -70,7 +70,7 @@ impl<W: WordSource> AreaView<'_, W> {
         ensures { words.new ≡ words_of (overlay (area_at (W.words self.now.source.now) self.now.map.area_base)) id }
     {
         let (frame, word) = address(id);
-        self.area().read(FRAME * frame + word, words);
+        self.area().read(FRAME_WORDS * frame + word, words);
     }
 }
 
@@ -161,8 +161,7 @@ impl<W: WordSource> RecordView for AreaView<'_, W> {
     }
 
     fn table_word(&self, slot: u32, table: u32, word: u32) -> u32 {
-        self.area()
-            .overlaid(TABLES + FRAME * (TABLES_OF_SLOT * slot + table) + word)
+        self.area().overlaid(TABLES + FRAME_WORDS * (TABLES_OF_SLOT * slot + table) + word)
     }
 
     fn area_base(&self) -> u32 {

@@ -6,8 +6,7 @@
 ghost use Rattle.std.specs.Prelude.{◌≡◌, ℕ, ◌+◌, ◌-◌, ◌*◌, ◌^◌, ◌<◌, ◌≤◌, true, IfSome, IfNone, None, is_some, length};
 ghost use Rattle.record_layouts.specs.Overlay.{EndsOpen, StandsFirst, area_at, gate_of, intent_seal, is_within, laid, lies_in, may_change, open_ranges, or_none, overlay, ranges_in, values_end, words_from};
 
-use crate::places::FRAME;
-use ow_base::{WordSource, seal};
+use ow_base::{FRAME_WORDS, WordSource, seal};
 
 // The frames of an area.
 const FRAMES: u32 = 64;
@@ -35,14 +34,14 @@ const HEAD: Span = Span { begin: 0, end: 16 };
 
 // The frames of processes, signals, descriptions, files, caches, terminals and rows, which it may change too.
 const RECORDS: Span = Span {
-    begin: FRAME,
-    end: 10 * FRAME,
+    begin: FRAME_WORDS,
+    end: 10 * FRAME_WORDS,
 };
 
 // The frame of exit records, the last that it may change.
 const EXITS: Span = Span {
-    begin: 11 * FRAME,
-    end: 12 * FRAME,
+    begin: 11 * FRAME_WORDS,
+    end: 12 * FRAME_WORDS,
 };
 
 /// What the intent block of an area says.
@@ -120,7 +119,7 @@ impl<W: WordSource> Area<'_, W> {
         ensures { result ≡ area_at (W.words self.now.source.now) self.now.base number }
     {
         self.source
-            .load(self.base + number / FRAME, number % FRAME)
+            .load(self.base + number / FRAME_WORDS, number % FRAME_WORDS)
             .unwrap_or(0)
     }
 
@@ -273,10 +272,10 @@ impl<W: WordSource> Area<'_, W> {
         let first = self.word(place + 1);
         let count = self.word(place + 2);
         let values = place + RANGE_HEAD;
-        if frame >= FRAMES || first >= FRAME || count > end - values {
+        if frame >= FRAMES || first >= FRAME_WORDS || count > end - values {
             return None;
         }
-        let begin = FRAME * frame + first;
+        let begin = FRAME_WORDS * frame + first;
         let span = Span {
             begin,
             end: begin + count,

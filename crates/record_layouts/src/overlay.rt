@@ -3,8 +3,7 @@ ghost use Rattle.std.specs.Prelude.{◌≡◌, ◌+◌, ◌*◌, ◌<◌, ◌≤
 ghost use Rattle.record_layouts.specs.Overlay.{EndsOpen, StandsFirst, area_at, gate_of, may_change, open_ranges, overlay, ranges_in, words_from};
 
 use crate::intent::{Area, Change, Gate};
-use crate::places::FRAME;
-use ow_base::WordSource;
+use ow_base::{FRAME_WORDS, WordSource};
 
 /// What the intent block says of the area that begins at frame `base`. A word that memory does not have reads as 0.
 ///
@@ -25,7 +24,7 @@ pub fn overlaid<W: WordSource>(source: &W, base: u32, frame: u32, word: u32) -> 
     requires word { word < 1024 }
     ensures { result ≡ overlay (area_at (W.words source.now) base) (1024 * frame + word) }
 {
-    Area { source, base }.overlaid(FRAME * frame + word)
+    Area { source, base }.overlaid(FRAME_WORDS * frame + word)
 }
 
 /// The number of the word behind the payload of the open intent of the area that begins at frame `base`. `None` comes

@@ -4,8 +4,7 @@ ghost use Rattle.record_layouts.specs.Overlay.{may_change};
 ghost use Rattle.record_layouts.specs.Places.{AreApart, IsRecordId, first_word, length_of};
 ghost use Rattle.record_layouts.specs.declared.places.RecordId.{RecordId};
 
-/// The words of a frame.
-pub(crate) const FRAME: u32 = 1024;
+use ow_base::FRAME_WORDS;
 
 /// Which record of an area.
 ///
@@ -29,8 +28,8 @@ pub enum RecordId {
 /// follow it, for file and row records also into the next frame.
 pub fn address(id: RecordId) -> (u32, u32)
     requires { IsRecordId id }
-    ensures number { FRAME * result.0 + result.1 ≡ first_word id }
-    ensures place { result.1 < FRAME }
+    ensures number { FRAME_WORDS * result.0 + result.1 ≡ first_word id }
+    ensures place { result.1 < FRAME_WORDS }
 {
     let (frame, words) = match id {
         RecordId::Head => (0, 0),
@@ -43,7 +42,7 @@ pub fn address(id: RecordId) -> (u32, u32)
         RecordId::Row(index) => (8, 24 * index),
         RecordId::Exit(pid) => (11, 4 * (pid - 1)),
     };
-    (frame + words / FRAME, words % FRAME)
+    (frame + words / FRAME_WORDS, words % FRAME_WORDS)
 }
 
 /// A law; the function does nothing. No two records of an area share a word, and an intent may change each of them.

@@ -9,12 +9,9 @@ use super::blueprint::{Blueprint, Holder, Placed};
 use super::setting::set_records;
 use frame_table::claim_word;
 use intent_store::{WordStore, store_area};
-use ow_base::Panicked;
+use ow_base::{FRAME_WORDS, Panicked};
 use record_layouts::MemoryMap;
 use sv32_tables::{leaf, pointer};
-
-// The words of a frame.
-const FRAME: u32 = 1024;
 
 const SLOTS: u32 = 16;
 
@@ -96,8 +93,8 @@ fn set_table<B: Blueprint, S: WordStore>(
     ensures allowed { OnErr result (S.may_refuse (S.rest store.old) ≡ true) }
     ensures place { S.place store.new ≡ S.place store.old }
 {
-    let first = FRAME * (FIRST_TABLE + 3 * slot + table);
-    for word in 0..FRAME {
+    let first = FRAME_WORDS * (FIRST_TABLE + 3 * slot + table);
+    for word in 0..FRAME_WORDS {
         store_area(
             store,
             map.area_base,
@@ -208,7 +205,7 @@ fn set_owners<B: Blueprint, S: WordStore>(
     ensures allowed { OnErr result (S.may_refuse (S.rest store.old) ≡ true) }
     ensures place { S.place store.new ≡ S.place store.old }
 {
-    for number in 0..FRAME {
+    for number in 0..FRAME_WORDS {
         store_area(
             store,
             map.area_base,
@@ -241,7 +238,7 @@ fn copy_page<B: Blueprint, S: WordStore>(
     ensures allowed { OnErr result (S.may_refuse (S.rest store.old) ≡ true) }
     ensures place { S.place store.new ≡ S.place store.old }
 {
-    for word in 0..FRAME {
+    for word in 0..FRAME_WORDS {
         store.store(frame, word, blueprint.page_word(slot, page, word))?;
     }
     Ok(())

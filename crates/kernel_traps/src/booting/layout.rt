@@ -7,12 +7,10 @@ ghost use Rattle.kernel_traps.specs.Boot.{pages_before};
 
 use super::blueprint::{Blueprint, Holder, Placed};
 use super::records::{boot_record, pages_for, program_at};
-use ow_base::{Load, Program, Rights};
+use ow_base::{FRAME_WORDS, Load, Program, Rights};
 use record_layouts::{AnyRec, RecordId};
 
 // The words of a page.
-const PAGE_WORDS: u32 = 1024;
-
 // The pages where code begins and where the four pages of stack begin and end.
 const CODE_PAGE: u32 = 16;
 
@@ -84,9 +82,9 @@ fn word_of(program: &Program, number: u32, word: u32) -> u32
 {
     let code = pages_for(program.code.items());
     if number < code {
-        word_or_zero(program.code.items(), PAGE_WORDS * number + word)
+        word_or_zero(program.code.items(), FRAME_WORDS * number + word)
     } else if number < count_low(program) {
-        word_or_zero(program.values.items(), PAGE_WORDS * (number - code) + word)
+        word_or_zero(program.values.items(), FRAME_WORDS * (number - code) + word)
     } else {
         0
     }

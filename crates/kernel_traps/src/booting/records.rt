@@ -16,14 +16,14 @@ ghost use Rattle.process_table.specs.Patches.{blank_bank as empty_bank};
 ghost use Rattle.kernel_traps.specs.Boot.{IsBootable, IsLoadable, program_in};
 ghost use Rattle.kernel_traps.specs.BootRecords.{booted_description, booted_exit, booted_head, booted_process, booted_record, booted_signals, started_record as record_of_start, free_process, unused_file, empty_entry, silent_record, blank_row_record};
 
-use ow_base::{Bank, Load, Program, Regs};
+use ow_base::{Bank, FRAME_WORDS, Load, Program, Regs};
 use record_layouts::{
     AnyRec, CacheRec, DescRec, ExitRec, FileRec, HeadRec, ProcRec, RecordId, RowRec, SigRec,
     TermRec,
 };
 
 // The words of a page.
-const PAGE_WORDS: usize = 1024;
+const PAGE_LENGTH: usize = FRAME_WORDS as usize;
 
 // The address of the code.
 const CODE_START: u32 = 0x10000;
@@ -41,7 +41,7 @@ pub(crate) fn pages_for(words: &[u32]) -> u32
     requires { length words.now ≤ 65536 }
     ensures { result ≡ page_count words.now }
 {
-    words.len().div_ceil(PAGE_WORDS) as u32
+    words.len().div_ceil(PAGE_LENGTH) as u32
 }
 
 /// The program that starts in a slot.

@@ -9,11 +9,8 @@ ghost use Rattle.kernel_traps.specs.BootSets.{HasRecords, IsSet, index_of, unrec
 
 use super::blueprint::Blueprint;
 use intent_store::{WordStore, store_area};
-use ow_base::Panicked;
+use ow_base::{FRAME_WORDS, Panicked};
 use record_layouts::{AnyRec, RecordId, address, records_lie_apart};
-
-// The words of a frame.
-const FRAME: u32 = 1024;
 
 // How many records an area has.
 const RECORDS: u32 = 467;
@@ -84,7 +81,7 @@ fn store_record<S: WordStore>(
 {
     records_lie_apart();
     let (frame, first) = address(id);
-    store_words(store, base, FRAME * frame + first, words)
+    store_words(store, base, FRAME_WORDS * frame + first, words)
 }
 
 // Sets a record.
