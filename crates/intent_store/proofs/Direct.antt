@@ -12,7 +12,7 @@ use Rattle.record_layouts.specs.Seam.{with_frame_words}
 use Rattle.record_layouts.proofs.Stores.{stored_words_set}
 use Rattle.intent_store.proofs.Behind.{behind_words_kept}
 use Rattle.intent_store.specs.Live.{IsStanding, held_of, map_of, records_held, rest_of}
-use Rattle.intent_store.specs.Stores.{with_frame, with_word_at}
+use Rattle.word_store.specs.Stores.{with_frame, with_word_at}
 use Rattle.intent_store.proofs.Holding.{map_same}
 use Rattle.intent_store.proofs.Plants.{armed_by_rest}
 

@@ -1,6 +1,4 @@
 -- Lemmas on stores, and on areas with an intent.
-pub mod Outcomes
-pub mod Stores
 pub mod Changes
 pub mod Openings
 pub mod Payloads

@@ -17,6 +17,7 @@ use Rattle.intent_store.specs.Blocks.{seal_of_payload, with_words_at}
 use Rattle.intent_store.specs.Payloads.{IsItemSpelled, IsOpened, IsPatchSpelled, IsPayload, IsRecordSpelled, IsSpelledOn}
 use Rattle.intent_store.specs.declared.opening.Spelling.{Spelling}
 use Rattle.intent_store.proofs.Openings.{seal_from-behind, seal_from-gate, with_words_at-behind, with_words_at-none}
+use Rattle.record_layouts.proofs.Items.{record_length, sets_item}
 
 pub payload_of-push : (ranges : List WordRange) (range : WordRange) → payload_of (ranges ++ range ∷ []) ≡ payload_of ranges ++ payload_of (range ∷ [])
 unfolding payload_of
@@ -36,28 +37,6 @@ allowed_by [] [] are = All-nil IsAllowed
 allowed_by [] (i ∷ items) are = absurd are
 allowed_by (r ∷ ranges) [] are = absurd are
 allowed_by (r ∷ ranges) (i ∷ items) are = All-cons IsAllowed r ranges are.0.allowed (allowed_by ranges items are.1)
-
--- a record has the words of its kind
-record_length : (id : RecordId) (rec : AnyRec) (words : List ℕ) → IsOfKind id rec → IsSpelled rec words → length words ≡ length_of id
-record_length id.Head (any.Head rec) words kind is = is.long
-record_length (id.Proc slot) (any.Proc rec) words kind is = is.long
-record_length (id.Sig slot) (any.Sig rec) words kind is = is.long
-record_length (id.Desc slot) (any.Desc rec) words kind is = is.long
-record_length (id.File slot) (any.File rec) words kind is = is.long
-record_length (id.Cache slot) (any.Cache rec) words kind is = is.long
-record_length (id.Term slot) (any.Term rec) words kind is = is.long
-record_length (id.Row slot) (any.Row rec) words kind is = is.long
-record_length (id.Exit slot) (any.Exit rec) words kind is = is.long
-record_length other rec words kind is = absurd kind
-
-pub sets_item : (item : PatchItem) (frame first : ℕ) (words : List ℕ) → IsPatchItem item → IsSpelled item.rec words → 1024 * frame + first ≡ first_word item.id → first < 1024
-    → may_change (first_word item.id) (first_word item.id + length_of item.id) ≡ true → Spells (record { frame = frame; first = first; words = words }) item
-sets_item item frame first words of_patch is place low changes = record {
-  begin = place;
-  long = record_length item.id item.rec words of_patch.kind is;
-  allowed = record { placed = low; changes = rw (place, record_length item.id item.rec words of_patch.kind is) changes };
-  spelled = is;
-}
 
 -- the payload of one range
 pub range_words : (frame first count : ℕ) (words : List ℕ) → count ≡ length words

@@ -10,7 +10,7 @@ use Rattle.ow_plant.specs.State.{IsArmed, PlantState, refuses, with_stored}
 use Rattle.phys_memory.specs.Memory.{IsSized, MemoryParts, frame_count, with_word, words_of}
 use Rattle.phys_memory.proofs.Words.{words_of-set}
 use Rattle.intent_store.specs.Live.{blank, blank_words, is_able, may_refuse, rest_of}
-use Rattle.intent_store.specs.Stores.{with_word_at}
+use Rattle.word_store.specs.Stores.{with_word_at}
 
 -- a word is there only where its frame is
 pub frame_there : (m : MemoryParts) (frame word : ℕ) → is_some (words_of m frame word) ≡ true → frame < frame_count m

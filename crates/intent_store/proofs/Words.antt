@@ -2,7 +2,7 @@
 use Rattle.std.proofs.Common.{◌≡◌, ℕ, ◌+◌, ◌<◌, true, is_some, refl, ◌∙◌, arith}
 use Rattle.std.proofs.lemmas.Bool.Decides.{nat_tests}
 use Rattle.ow_base.specs.Sv32.{WordMap}
-use Rattle.intent_store.specs.Stores.{KeepsUnstored, with_first, with_frame, with_word_at}
+use Rattle.word_store.specs.Stores.{KeepsUnstored, with_first, with_frame, with_word_at}
 
 module _ (words : WordMap) (frame : ℕ) (value : ℕ → ℕ) where
   first-none_word : (f w : ℕ) → words f w ≡ with_first words frame 0 value f w

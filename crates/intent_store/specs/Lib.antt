@@ -1,5 +1,4 @@
 -- What contracts say of memory whose words are stored one by one, of an area's intent, and of the kernel that runs.
-pub mod Stores
 pub mod Blocks
 pub mod Payloads
 pub mod Live

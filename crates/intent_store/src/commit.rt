@@ -6,13 +6,13 @@ ghost use Rattle.record_layouts.specs.Patch.{IsPatch};
 ghost use Rattle.record_layouts.specs.Reading.{is_readable_gate};
 ghost use Rattle.intent_store.specs.Blocks.{IsSeenAs, IsSeenSet};
 ghost use Rattle.ow_plant.specs.declared.refusal.Refusal.TheVariants.{Store};
-ghost use Rattle.intent_store.specs.Stores.{KeepsUnstored};
+ghost use Rattle.word_store.specs.Stores.{KeepsUnstored};
 
 use crate::copying::{carry_out, roll_forward};
 use crate::opening::open;
-use crate::word_store::WordStore;
 use ow_base::Panicked;
 use record_layouts::Patch;
+use word_store::WordStore;
 
 /// Sets the records of a patch in the area that begins at frame `base`, of which no intent is open then.
 ///

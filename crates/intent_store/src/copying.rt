@@ -5,11 +5,11 @@ ghost use Rattle.record_layouts.specs.Overlay.{EndsOpen, HasArea, area_at, gate_
 ghost use Rattle.record_layouts.specs.Reading.{is_readable_gate};
 ghost use Rattle.intent_store.specs.Blocks.{IsPartlyChanged, ReadsAs, partly_changed, rolled};
 ghost use Rattle.ow_plant.specs.declared.refusal.Refusal.TheVariants.{Store};
-ghost use Rattle.intent_store.specs.Stores.{KeepsUnstored};
+ghost use Rattle.word_store.specs.Stores.{KeepsUnstored};
 
-use crate::word_store::{WordStore, store_area};
 use ow_base::{FRAME_WORDS, Panicked, WordSource};
 use record_layouts::{Change, GATE, PAYLOAD, change_at, open_end};
+use word_store::{WordStore, store_area};
 
 /// Carries out the open intent of the area that begins at frame `base`, and closes it. Where none is open nothing is done.
 pub(crate) fn roll_forward<W: WordStore>(store: &mut W, base: u32) -> Result<(), Panicked>

@@ -1,11 +1,11 @@
 //! Whole frames that are stored word by word.
 ghost use Rattle.std.specs.Prelude.{◌≡◌, ℕ, ◌<◌, true, is_some, OnOk, OnErr};
 ghost use Rattle.ow_base.specs.Sv32.{word_or_zero};
-ghost use Rattle.intent_store.specs.Stores.{KeepsUnstored, IsBegun, with_first};
+ghost use Rattle.word_store.specs.Stores.{KeepsUnstored, IsBegun, with_first};
 ghost use Rattle.ow_plant.specs.declared.refusal.Refusal.TheVariants.{Store};
 
-use crate::word_store::WordStore;
 use ow_base::{FRAME_WORDS, Panicked, WordSource};
+use word_store::WordStore;
 
 /// Makes all words of a frame that is there 0, the first one first.
 pub(crate) fn zero_frame<W: WordStore>(store: &mut W, frame: u32) -> Result<(), Panicked>

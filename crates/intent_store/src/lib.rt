@@ -9,7 +9,5 @@ mod frames;
 mod live;
 mod opening;
 mod payload;
-mod word_store;
 
 pub use live::{Live, live_records};
-pub use word_store::{WordStore, store_area};

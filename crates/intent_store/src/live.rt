@@ -8,13 +8,13 @@ ghost use Rattle.intent_store.specs.Live.{map_of};
 
 use crate::commit::commit;
 use crate::frames::{copy_frame, zero_frame};
-use crate::word_store::WordStore;
 use ow_base::{Now, Panicked, WordSource};
 use ow_plant::Plant;
 use record_layouts::{
     AreaView, CacheRec, DescRec, ExitRec, FileRec, HeadRec, MemoryMap, Patch, ProcRec, RecordView,
     RowRec, SigRec, TermRec, Writer,
 };
+use word_store::WordStore;
 
 // Where the frames of the kernel are that runs on a plant.
 fn live_map(plant: &Plant) -> MemoryMap

@@ -6,14 +6,14 @@ ghost use Rattle.record_layouts.specs.Patch.{FitsAny, IsPatch, IsPatchItem};
 ghost use Rattle.intent_store.specs.Blocks.{IsShutLike};
 ghost use Rattle.intent_store.specs.Payloads.{IsItemSpelled, IsOpened, IsPatchSpelled, IsRecordSpelled, IsSpelledOn};
 ghost use Rattle.ow_plant.specs.declared.refusal.Refusal.TheVariants.{Store};
-ghost use Rattle.intent_store.specs.Stores.{KeepsUnstored};
+ghost use Rattle.word_store.specs.Stores.{KeepsUnstored};
 
 use crate::payload::{length_of, payload_length};
-use crate::word_store::{WordStore, store_area};
 use ow_base::{Panicked, seal};
 use record_layouts::{
     AnyRec, GATE, INTENT_KIND, PAYLOAD, Patch, PatchItem, SEAL, address, records_lie_apart,
 };
+use word_store::{WordStore, store_area};
 
 /// How far an intent is spelled: the number of the next word of its payload, and the seal of its gate and its words.
 #[derive(Clone, Copy, Debug, PartialEq, Eq)]

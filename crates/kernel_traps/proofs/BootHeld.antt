@@ -12,7 +12,7 @@ use Rattle.ow_plant.specs.State.{PlantState, IsReady}
 use Rattle.intent_store.specs.Live.{is_able, map_of, records_held, rest_of}
 use Rattle.kernel_traps.specs.Boot.{IsBootable, pages_before, program_in}
 use Rattle.kernel_traps.specs.BootLayout.{boot_map, booted_plan}
-use Rattle.kernel_traps.specs.BootSets.{IsBuilt}
+use Rattle.kernel_builder.specs.Sets.{IsBuilt}
 use Rattle.kernel_traps.specs.BootState.{IsBooted}
 use Rattle.kernel_traps.specs.BootStores.{IsBooting}
 use Rattle.kernel_traps.specs.BootTables.{HasWords}

@@ -14,8 +14,8 @@ use Rattle.record_layouts.specs.Seam.{IsSpelled}
 use Rattle.record_layouts.specs.Spelling.{are_below, lies_between}
 use Rattle.record_layouts.proofs.Reading.{cache_read, desc_read, exit_read, file_read, head_read, proc_read, row_read, sig_read, term_read}
 use Rattle.kernel_traps.specs.BootRecords.{booted_record}
-use Rattle.kernel_traps.specs.BootSets.{HasRecords}
-use Rattle.kernel_traps.proofs.BootSets.{all_numbered}
+use Rattle.kernel_builder.specs.Sets.{HasRecords}
+use Rattle.kernel_builder.proofs.Sets.{all_numbered}
 
 spelled_read : (map : MemoryMap) (area : Area) (load : Load) (one : RecordId) → IsRecordId one → IsSpelled (booted_record load one) (words_of area one)
     → at (records_in map true area) one ≡ fitted one (booted_record load one)

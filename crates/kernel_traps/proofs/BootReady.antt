@@ -9,7 +9,7 @@ use Rattle.record_layouts.specs.Overlay.{HasArea, area_at, or_zero}
 use Rattle.ow_plant.specs.State.{PlantState, IsReady}
 use Rattle.intent_store.proofs.Holding.{has_area}
 use Rattle.kernel_traps.specs.BootLayout.{boot_map}
-use Rattle.kernel_traps.specs.BootPlan.{HasFrames}
+use Rattle.kernel_builder.specs.Plan.{HasFrames}
 use Rattle.kernel_traps.specs.BootStores.{HasNoneAtBoot, IsBooting}
 use Rattle.kernel_traps.proofs.BootStores.{booting_base}
 

@@ -15,8 +15,8 @@ use Rattle.record_layouts.specs.Reading.{records_in}
 use Rattle.record_layouts.specs.Unix.State.{is_within}
 use Rattle.kernel_traps.specs.Boot.{IsBootable, IsLoadable, pages_before, program_in}
 use Rattle.kernel_traps.specs.BootLayout.{boot_map, booted_plan, holder_below, low_pages, number_in, page_in, placed_by, placed_in, word_at, word_by, word_in}
-use Rattle.kernel_traps.specs.BootPlan.{claim_by, entry_word, owner_word, page_entry}
-use Rattle.kernel_traps.specs.BootSets.{IsBuilt, IsFilled}
+use Rattle.kernel_builder.specs.Plan.{claim_by, entry_word, owner_word, page_entry}
+use Rattle.kernel_builder.specs.Sets.{IsBuilt, IsFilled}
 use Rattle.kernel_traps.specs.BootTables.{HasTables, HasWords, low_rights}
 use Rattle.kernel_traps.proofs.BootLayout.{holder_found, holder_missed, pages_fit, pages_more, start_loadable}
 

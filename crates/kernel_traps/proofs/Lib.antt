@@ -19,10 +19,6 @@ pub mod Refusals
 pub mod Decoding
 pub mod BootStores
 pub mod BootRecords
-pub mod BootSets
-pub mod BootFilling
-pub mod BootCopying
-pub mod BootBuilt
 pub mod BootReads
 pub mod BootLayout
 pub mod BootReady

@@ -5,10 +5,10 @@ use Rattle.ow_base.specs.declared.worlds.Load.{Load}
 use Rattle.ow_base.specs.declared.worlds.Program.{Program}
 use Rattle.record_layouts.specs.declared.memory_map.MemoryMap.{MemoryMap}
 use Rattle.record_layouts.specs.Unix.State.{is_within}
-use Rattle.kernel_traps.specs.declared.booting.blueprint.Placed.{Placed}
-use Rattle.kernel_traps.specs.declared.booting.blueprint.Holder.{Holder}
+use Rattle.kernel_builder.specs.declared.blueprint.Placed.{Placed}
+use Rattle.kernel_builder.specs.declared.blueprint.Holder.{Holder}
 use Rattle.kernel_traps.specs.Boot.{program_in, pages_before}
-use Rattle.kernel_traps.specs.BootPlan.{Plan}
+use Rattle.kernel_builder.specs.Plan.{Plan}
 use Rattle.kernel_traps.specs.BootRecords.{booted_record}
 use Rattle.kernel_traps.specs.BootTables.{low_rights}
 

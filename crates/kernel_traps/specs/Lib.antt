@@ -10,8 +10,6 @@ pub mod User
 pub mod Boot
 pub mod BootStores
 pub mod BootRecords
-pub mod BootPlan
-pub mod BootSets
 pub mod BootTables
 pub mod BootLayout
 pub mod BootState

@@ -8,22 +8,20 @@ ghost use Rattle.intent_store.specs.Live.{is_able, records_held, rest_of};
 ghost use Rattle.kernel_traps.specs.Plants.{IsSound, unix_at};
 ghost use Rattle.kernel_traps.specs.Boot.{IsBootable, pages_before, program_in};
 ghost use Rattle.kernel_traps.specs.BootLayout.{boot_map, booted_plan};
-ghost use Rattle.kernel_traps.specs.BootSets.{IsBuilt};
+ghost use Rattle.kernel_builder.specs.Sets.{IsBuilt};
 ghost use Rattle.kernel_traps.specs.BootState.{IsBooted};
 ghost use Rattle.kernel_traps.specs.BootStores.{HasNoneAtBoot, IsBooting};
 ghost use Rattle.kernel_traps.specs.BootTables.{HasWords};
 ghost use Rattle.kernel_traps.specs.Turning.{IsSameMachine};
 
-mod blueprint;
-mod building;
 mod laws;
 mod layout;
 mod records;
-mod setting;
 
-use building::build_kernel;
 use intent_store::Live;
+use kernel_builder::build_kernel;
 pub use laws::worlds_can_boot;
+use layout::Booted;
 use ow_base::{Load, Panicked};
 use ow_plant::Plant;
 use record_layouts::MemoryMap;
@@ -45,7 +43,7 @@ fn build_load(plant: &mut Plant, load: &Load)
         sectors: load.shape.sectors,
     };
     let mut live = Live::new(plant);
-    match build_kernel(&mut live, &map, load) {
+    match build_kernel(&mut live, &map, &Booted { load }) {
         Ok(()) => {}
         Err(Panicked) => unreachable!(),
     }

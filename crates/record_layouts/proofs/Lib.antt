@@ -17,3 +17,4 @@ pub mod Rows
 pub mod Files
 pub mod Ranges
 pub mod Intents
+pub mod Items

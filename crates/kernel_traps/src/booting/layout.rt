@@ -5,8 +5,8 @@ ghost use Rattle.kernel_traps.specs.Boot.{IsBootable, IsLoadable, program_in};
 ghost use Rattle.kernel_traps.specs.BootLayout.{holder_below, low_pages, number_in, page_in, word_in};
 ghost use Rattle.kernel_traps.specs.Boot.{pages_before};
 
-use super::blueprint::{Blueprint, Holder, Placed};
 use super::records::{boot_record, pages_for, program_at};
+use kernel_builder::{Blueprint, Holder, Placed};
 use ow_base::{FRAME_WORDS, Load, Program, Rights};
 use record_layouts::{AnyRec, RecordId};
 
@@ -143,26 +143,32 @@ fn find_holder(load: &Load, frame: u32) -> Option<Holder>
     None
 }
 
-impl Blueprint for Load {
+/// A load as what a new kernel begins with.
+#[derive(Clone, Copy)]
+pub(crate) struct Booted<'l> {
+    pub(crate) load: &'l Load,
+}
+
+impl Blueprint for Booted<'_> {
     ghost use Rattle.kernel_traps.specs.Boot.{IsBootable};
     ghost use Rattle.kernel_traps.specs.BootLayout.{booted_plan};
 
-    ghost plan = { booted_plan };
+    ghost plan = { λ b. booted_plan b.load.now };
 
-    ghost frames = { λ load. load.shape.user_frames };
+    ghost frames = { λ b. b.load.now.shape.user_frames };
 
-    ghost stands = { IsBootable };
+    ghost stands = { λ b. IsBootable b.load.now };
 
     fn record(&self, id: RecordId) -> AnyRec {
-        boot_record(self, id)
+        boot_record(self.load, id)
     }
 
     fn is_live(&self, slot: u32) -> bool {
-        (slot as usize) < self.starts.items().len()
+        (slot as usize) < self.load.starts.items().len()
     }
 
     fn page(&self, slot: u32, page: u32) -> Option<Placed> {
-        let program = program_at(self, slot)?;
+        let program = program_at(self.load, slot)?;
         let number = number_of(program, page)?;
         let rights = if number < pages_for(program.code.items()) {
             Rights::Code
@@ -170,17 +176,17 @@ impl Blueprint for Load {
             Rights::Values
         };
         Some(Placed {
-            frame: first_frame(self, slot) + number,
+            frame: first_frame(self.load, slot) + number,
             rights,
         })
     }
 
     fn holder(&self, frame: u32) -> Option<Holder> {
-        find_holder(self, frame)
+        find_holder(self.load, frame)
     }
 
     fn page_word(&self, slot: u32, page: u32, word: u32) -> u32 {
-        let Some(program) = program_at(self, slot) else {
+        let Some(program) = program_at(self.load, slot) else {
             return 0;
         };
         match number_of(program, page) {

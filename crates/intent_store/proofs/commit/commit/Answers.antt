@@ -1,6 +1,6 @@
 use Rattle.std.proofs.Common.{◌≡◌, ◌<◌, length, arith, inl, inr}
 use Rattle.std.proofs.lemmas.Bool.Decides.{nat_tests}
-use Rattle.intent_store.proofs.Outcomes.{on_ok, on_err, at_err}
+use Rattle.word_store.proofs.Outcomes.{on_ok, on_err, at_err}
 use Rattle.intent_store.proofs.Payloads.{payload-some}
 use Rattle.intent_store.proofs.Reading.{ends-opened, readable-opened, rolled-gate, seen-reads, seen-rolled, seen-shut, seen-then, set-before, set-none, set-opened}
 use Rattle.intent_store.proofs.commit.commit.Goals as goal

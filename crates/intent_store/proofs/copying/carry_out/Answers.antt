@@ -1,7 +1,7 @@
 use Rattle.std.proofs.Common.{subst, sym}
 use Rattle.record_layouts.specs.Overlay.{Area, area_at}
 use Rattle.intent_store.specs.Blocks.{ReadsAs}
-use Rattle.intent_store.proofs.Outcomes.{on_err}
+use Rattle.word_store.proofs.Outcomes.{on_err}
 use Rattle.intent_store.proofs.copying.carry_out.Goals as goal
 
 pub returns-clause-err : goal.returns-clause-err

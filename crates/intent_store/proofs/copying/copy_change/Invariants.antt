@@ -2,7 +2,7 @@ use Rattle.std.proofs.Common.{◌≡◌, ◌-◌, true}
 use Rattle.record_layouts.specs.Held.{beside}
 use Rattle.record_layouts.specs.Overlay.{HasArea, area_at}
 use Rattle.intent_store.specs.Blocks.{partly_changed}
-use Rattle.intent_store.specs.Stores.{KeepsUnstored}
+use Rattle.word_store.specs.Stores.{KeepsUnstored}
 use Rattle.intent_store.proofs.copying.copy_change.Given as goal
 
 -- the words before this one are in their places

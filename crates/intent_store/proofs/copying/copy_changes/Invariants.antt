@@ -2,7 +2,7 @@ use Rattle.std.proofs.Common.{◌≡◌, ◌-◌, true}
 use Rattle.record_layouts.specs.Held.{beside}
 use Rattle.record_layouts.specs.Overlay.{HasArea, area_at}
 use Rattle.intent_store.proofs.Changes.{IsCopying}
-use Rattle.intent_store.specs.Stores.{KeepsUnstored}
+use Rattle.word_store.specs.Stores.{KeepsUnstored}
 use Rattle.intent_store.proofs.copying.copy_changes.Given as goal
 
 -- the ranges of the payload before this place are in their places

@@ -1,6 +1,6 @@
 use Rattle.std.proofs.Common.{◌<◌, ◌≡◌, ◌∙◌, ℕ, ap, refl, arith, is_some, true, sym, subst}
 use Rattle.ow_base.specs.Sv32.{WordMap, word_or_zero}
-use Rattle.intent_store.specs.Stores.{with_word_at}
+use Rattle.word_store.specs.Stores.{with_word_at}
 use Rattle.intent_store.proofs.Words.{unstored_same, unstored_then, first-none, first-more, first-later, first-there}
 use Rattle.intent_store.proofs.frames.copy_frame.Goals as goal
 

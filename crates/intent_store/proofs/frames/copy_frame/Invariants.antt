@@ -1,6 +1,6 @@
 use Rattle.std.proofs.Common.{◌≡◌, true}
 use Rattle.ow_base.specs.Sv32.{word_or_zero}
-use Rattle.intent_store.specs.Stores.{KeepsUnstored, with_first}
+use Rattle.word_store.specs.Stores.{KeepsUnstored, with_first}
 use Rattle.intent_store.proofs.frames.copy_frame.Given as goal
 
 -- the words before this one are copied

@@ -1,6 +1,6 @@
 use Rattle.std.proofs.Common.{◌<◌, ◌≡◌, ◌∙◌, ap, refl, arith, is_some, true, sym, subst}
 use Rattle.ow_base.specs.Sv32.{WordMap}
-use Rattle.intent_store.specs.Stores.{with_word_at}
+use Rattle.word_store.specs.Stores.{with_word_at}
 use Rattle.intent_store.proofs.Words.{unstored_same, unstored_then, first-none, first-more, first-there}
 use Rattle.intent_store.proofs.frames.zero_frame.Goals as goal
 

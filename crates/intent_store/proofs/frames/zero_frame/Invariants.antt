@@ -1,5 +1,5 @@
 use Rattle.std.proofs.Common.{◌≡◌, true}
-use Rattle.intent_store.specs.Stores.{KeepsUnstored, with_first}
+use Rattle.word_store.specs.Stores.{KeepsUnstored, with_first}
 use Rattle.intent_store.proofs.frames.zero_frame.Given as goal
 
 -- the words before this one are 0

@@ -2,7 +2,7 @@ use Rattle.std.proofs.Common.{◌∙◌, ap, subst, sym, arith}
 use Rattle.ow_base.specs.Words.{updated}
 use Rattle.record_layouts.specs.Overlay.{Area, area_at}
 use Rattle.intent_store.specs.Blocks.{IsShutLike}
-use Rattle.intent_store.proofs.Outcomes.{at_err}
+use Rattle.word_store.proofs.Outcomes.{at_err}
 use Rattle.intent_store.proofs.Openings.{shut-more}
 use Rattle.intent_store.proofs.Payloads.{patch-opened}
 use Rattle.intent_store.proofs.opening.open.Goals as goal

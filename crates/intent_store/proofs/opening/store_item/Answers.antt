@@ -1,4 +1,4 @@
-use Rattle.intent_store.proofs.Outcomes.{if_ok}
+use Rattle.word_store.proofs.Outcomes.{if_ok}
 use Rattle.intent_store.proofs.Payloads.{item-spelled}
 use Rattle.intent_store.proofs.opening.store_item.Goals as goal
 

@@ -3,7 +3,7 @@ use Rattle.record_layouts.specs.Held.{beside}
 use Rattle.record_layouts.specs.Overlay.{HasArea, area_at}
 use Rattle.intent_store.specs.Blocks.{IsShutLike}
 use Rattle.intent_store.specs.Payloads.{IsPatchSpelled}
-use Rattle.intent_store.specs.Stores.{KeepsUnstored}
+use Rattle.word_store.specs.Stores.{KeepsUnstored}
 use Rattle.intent_store.proofs.opening.store_payload.Given as goal
 
 -- the records so far are spelled

@@ -2,7 +2,7 @@ use Rattle.std.proofs.Common.{◌≡◌, true, take}
 use Rattle.record_layouts.specs.Held.{beside}
 use Rattle.record_layouts.specs.Overlay.{HasArea, area_at}
 use Rattle.intent_store.specs.Blocks.{IsShutLike, with_words_at}
-use Rattle.intent_store.specs.Stores.{KeepsUnstored}
+use Rattle.word_store.specs.Stores.{KeepsUnstored}
 use Rattle.intent_store.proofs.opening.store_words.Given as goal
 
 -- the first of the words are stored

@@ -3,7 +3,7 @@ use Rattle.phys_memory.specs.Memory.{words_of}
 use Rattle.ow_plant.specs.State.{PlantState}
 use Rattle.intent_store.specs.Live.{may_refuse, rest_of}
 use Rattle.kernel_traps.specs.BootLayout.{boot_map}
-use Rattle.kernel_traps.specs.BootPlan.{HasFrames}
+use Rattle.kernel_builder.specs.Plan.{HasFrames}
 use Rattle.kernel_traps.proofs.BootReady.{booting_frames}
 use Rattle.kernel_traps.proofs.BootStores.{may_refuse_none}
 use Rattle.kernel_traps.proofs.booting.build_load.Goals as goal

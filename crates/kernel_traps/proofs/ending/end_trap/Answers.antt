@@ -6,7 +6,7 @@ use Rattle.syscalls.specs.Serving.{IsDoable, plan_of}
 use Rattle.syscalls.specs.declared.service.Service.{Service}
 use Rattle.syscalls.specs.declared.service.Service.TheVariants as service
 use Rattle.ow_plant.specs.State.{PlantState, left_trap}
-use Rattle.intent_store.proofs.Outcomes.{on_ok}
+use Rattle.word_store.proofs.Outcomes.{on_ok}
 use Rattle.intent_store.specs.Live.{IsStanding, held_of}
 use Rattle.kernel_traps.specs.Plants.{IsSound}
 use Rattle.kernel_traps.specs.Carrying.{HasRoomFor, IsCarriedOut}

@@ -1,7 +1,7 @@
 use Rattle.std.proofs.Common.{◌≡◌, ◌+◌, ◌<◌, List, [], ◌∷◌, ◌++◌, length, take, get_or, sym, subst, arith}
 use Rattle.std.proofs.lemmas.List.{take_more}
 use Rattle.intent_store.specs.Live.{held_of}
-use Rattle.intent_store.proofs.Outcomes.{at_err}
+use Rattle.word_store.proofs.Outcomes.{at_err}
 use Rattle.kernel_traps.specs.Putting.{IsPut}
 use Rattle.kernel_traps.proofs.Puts.{put_partly, put_then}
 use Rattle.kernel_traps.proofs.services.put_bytes.Goals as goal

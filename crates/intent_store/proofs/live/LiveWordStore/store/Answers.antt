@@ -2,7 +2,7 @@ use Rattle.std.proofs.Common.{◌<◌, ◌∙◌, ap}
 use Rattle.ow_plant.specs.State.{PlantState}
 use Rattle.phys_memory.specs.Memory.{frame_count, words_of}
 use Rattle.intent_store.specs.Live.{rest_of}
-use Rattle.intent_store.proofs.Outcomes.{on_ok, on_err, either_way, told_by}
+use Rattle.word_store.proofs.Outcomes.{on_ok, on_err, either_way, told_by}
 use Rattle.intent_store.proofs.Plants.{frame_there, refused_in_trap, rest_stored, words_stored}
 use Rattle.intent_store.proofs.live.LiveWordStore.store.Goals as goal
 

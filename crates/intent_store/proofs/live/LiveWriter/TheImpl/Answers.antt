@@ -1,5 +1,5 @@
 -- What the trait says of a refusal it says by a test.
-use Rattle.intent_store.proofs.Outcomes.{none_stands, none_at_ok, some_at_err}
+use Rattle.word_store.proofs.Outcomes.{none_stands, none_at_ok, some_at_err}
 use Rattle.intent_store.proofs.live.LiveWriter.TheImpl.Goals as goal
 
 pub commit-asks : goal.commit-asks

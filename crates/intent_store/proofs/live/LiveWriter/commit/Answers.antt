@@ -5,7 +5,7 @@ use Rattle.record_layouts.specs.Held.{patched}
 use Rattle.record_layouts.specs.Overlay.{HasArea, area_at}
 use Rattle.intent_store.specs.Blocks.{IsSeenAs, IsSeenSet}
 use Rattle.intent_store.specs.Live.{held_of, map_of}
-use Rattle.intent_store.proofs.Outcomes.{on_ok, on_err, either_way}
+use Rattle.word_store.proofs.Outcomes.{on_ok, on_err, either_way}
 use Rattle.intent_store.proofs.Holding.{committed_as, committed_set, has_area, held_either}
 use Rattle.intent_store.proofs.live.LiveWriter.commit.Goals as goal
 

@@ -4,7 +4,7 @@ use Rattle.phys_memory.specs.Memory.{words_of}
 use Rattle.record_layouts.specs.Held.{with_words}
 use Rattle.intent_store.specs.Live.{held_of, map_of}
 use Rattle.record_layouts.specs.Reading.{records_in, records_of}
-use Rattle.intent_store.proofs.Outcomes.{on_ok, on_err, either_way}
+use Rattle.word_store.proofs.Outcomes.{on_ok, on_err, either_way}
 use Rattle.intent_store.proofs.Direct.{beside_is, held_stored, standing_stored}
 use Rattle.intent_store.proofs.live.LiveWriter.copy_frame.Goals as goal
 

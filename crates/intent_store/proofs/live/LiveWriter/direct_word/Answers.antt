@@ -1,7 +1,7 @@
 use Rattle.std.proofs.Common.{◌==◌, ◌∙◌}
 use Rattle.phys_memory.specs.Memory.{words_of}
 use Rattle.record_layouts.specs.Reading.{records_in, records_of}
-use Rattle.intent_store.proofs.Outcomes.{on_ok, on_err, either_way}
+use Rattle.word_store.proofs.Outcomes.{on_ok, on_err, either_way}
 use Rattle.intent_store.proofs.Direct.{held_stored, standing_same, standing_stored, word_alone}
 use Rattle.intent_store.proofs.live.LiveWriter.direct_word.Goals as goal
 

@@ -1,6 +1,6 @@
 use Rattle.std.proofs.Common.{nat_lt}
 use Rattle.record_layouts.specs.Reading.{records_in, records_of}
-use Rattle.intent_store.proofs.Outcomes.{on_ok, on_err, either_way}
+use Rattle.word_store.proofs.Outcomes.{on_ok, on_err, either_way}
 use Rattle.intent_store.proofs.Direct.{held_stored, standing_stored}
 use Rattle.intent_store.proofs.live.LiveWriter.zero_frame.Goals as goal
 

@@ -1,0 +1,17 @@
+use Rattle.std.proofs.Common.{◌≡◌, true}
+use Rattle.record_layouts.specs.Held.{beside}
+use Rattle.record_layouts.specs.Overlay.{HasArea, area_at}
+use Rattle.kernel_builder.specs.Sets.{with_table}
+use Rattle.kernel_builder.proofs.building.set_table.Given as goal
+
+-- the words before this one are set
+abbrev pub invariant-loop-word : goal.invariant-loop-word
+invariant-loop-word g l = record {
+  able : g.S.WordStore.able l.store ≡ true;
+  area : area_at (g.S.WordSource.words l.store) l.map.area_base
+      ≡ with_table l.map (g.B.Blueprint.plan l.blueprint) (area_at (g.S.WordSource.words l.fn.store) l.map.area_base) l.slot l.table l.word;
+  there : HasArea (g.S.WordSource.words l.store) l.map.area_base;
+  beside : beside l.map.area_base (g.S.WordSource.words l.store) ≡ beside l.map.area_base (g.S.WordSource.words l.fn.store);
+  rest : g.S.WordStore.rest l.store ≡ g.S.WordStore.rest l.fn.store;
+  place : g.S.WordStore.place l.store ≡ g.S.WordStore.place l.fn.store;
+}

@@ -1,0 +1,2 @@
+-- What contracts say of memory whose words are stored one by one.
+pub mod Stores

@@ -1,0 +1,6 @@
+//! Memory whose words are stored one by one, each by a store that may be refused.
+#![tactic(auto)]
+
+mod storing;
+
+pub use storing::{WordStore, store_area};
