@@ -119,7 +119,9 @@ of_signal u pid signal p live = rw live (from_trapped (trap.Signal pid signal) u
 piece_alike : (u : Unix) (pid : ℕ) (p : Process) (number done : ℕ) (call : CallState) → call ≡ In number done → AreAlike (trapped u pid) (piece_by u pid p call)
 unfolding continued
 piece_alike u pid p number done Out is = absurd (cc is)
-piece_alike u pid p number done (In n d) is = on (description_of (trapped u pid) p (argument p 0)) where
+piece_alike u pid p number done (In n d) is =
+    let v = trapped u pid in
+    if_alike v (piece_on v pid p d (description_of v p (argument p 0))) v (n == 2) (on (description_of v p (argument p 0))) (record { steps = refl; traps = refl; last = refl }) where
   on : (o : Option Description) → AreAlike (trapped u pid) (piece_on (trapped u pid) pid p d o)
   on (Some o) = write_alike (trapped u pid) pid p d o.object
   on None = record { steps = refl; traps = refl; last = refl }

@@ -1,5 +1,5 @@
 -- States with processes in all kinds of places at a panic, and wounds of all kinds.
-use Rattle.std.specs.Prelude.{ℕ, ◌-◌, ◌==◌, ◌||◌, if◌then◌else◌, List, [], ◌∷◌, ◌++◌, slice_get, replicate, Option, Some, None, option_and_then, option_map}
+use Rattle.std.specs.Prelude.{ℕ, ◌-◌, true, ◌==◌, ◌||◌, if◌then◌else◌, List, [], ◌∷◌, ◌++◌, slice_get, replicate, Option, Some, None, option_and_then, option_map}
 use Rattle.ow_base.specs.declared.machine.Bank.{Bank}
 use Rattle.record_layouts.specs.Unix.State.{Unix, Process, CallState, Out, In, EndedChild, Description, Object, OnFile, OnTty, AtPanic}
 use Rattle.record_layouts.specs.Unix.Wounds.{Wounds, no_wounds}
