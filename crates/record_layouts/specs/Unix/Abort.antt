@@ -188,3 +188,8 @@ fates_from v x pid (suc n) = fate_before v x pid (v.processes pid) (fates_from v
 
 unfoldable pub fates : Unix → Wounds → List (ℕ × Fate)
 fates v x = fates_from v x 1 most_pids
+
+-- the fate that is told of a process
+unfoldable pub fate_in : List (ℕ × Fate) → (pid : ℕ) → Option Fate
+fate_in [] pid = None
+fate_in (told ∷ rest) pid = if told.0 == pid then Some told.1 else fate_in rest pid
