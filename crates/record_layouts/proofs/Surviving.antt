@@ -1,6 +1,9 @@
 -- What a panic that wounds nothing makes of processes.
 use Rattle.std.proofs.Common.{◌≡◌, ◌∙◌, ◌+◌, ◌≤◌, ◌==◌, ℕ, zero, suc, Bool, true, false, List, [], ◌∷◌, Option, Some, None, inl, inr, refl, sym, ap, subst, arith}
 use Rattle.std.specs.Prelude.{◌<◌, map, not, is_some, option_map}
+use Rattle.std.specs.List.{All, AllPairs}
+use Rattle.std.proofs.lemmas.List.Elements.{All-cons, All-nil}
+use Rattle.std.proofs.lemmas.List.Kept.{AllPairs-cons}
 use Rattle.std.proofs.lemmas.Bool.{cases_Bool}
 use Rattle.std.proofs.lemmas.Bool.Decides.{nat_tests}
 use Rattle.ow_base.specs.Words.{minus, wrapped}
@@ -166,6 +169,9 @@ module _ (shape : Shape) (u v : Unix) (ending : Ending) (ends : ending_of shape 
     ap (λ (s : Unix). s.steps) left ∙ omega arith,
   )
 
+no_pairs : {A : Type 0} (R : A → A → Type 0) → AllPairs R []
+no_pairs R i j d low high = absurd (omega arith)
+
 -- the fates that are told
 module _ (v : Unix) (x : Wounds) where
   at_other : (first pid : ℕ) (o : Option Process) (rest : List (ℕ × Fate)) → (first == pid) ≡ false → fate_in (fate_before v x first o rest) pid ≡ fate_in rest pid
@@ -178,6 +184,16 @@ module _ (v : Unix) (x : Wounds) where
   unfolding fate_in
   at_one pid (Some p) rest none = let is : (pid == pid) ≡ true = grind (arith, nat_tests) in rw is refl
   at_one pid None rest none = none
+
+  above_one : (least first : ℕ) (o : Option Process) (rest : List (ℕ × Fate)) → least < first → All (λ (told : ℕ × Fate). least < told.0) rest
+      → All (λ (told : ℕ × Fate). least < told.0) (fate_before v x first o rest)
+  above_one least first (Some p) rest below all = All-cons (λ (told : ℕ × Fate). least < told.0) (first, fate_of v x first p) rest below all
+  above_one least first None rest below all = all
+
+  from_one : (first : ℕ) (o : Option Process) (rest : List (ℕ × Fate)) → All (λ (told : ℕ × Fate). first < told.0) rest
+      → AllPairs (λ (some later : ℕ × Fate). some.0 < later.0) rest → AllPairs (λ (some later : ℕ × Fate). some.0 < later.0) (fate_before v x first o rest)
+  from_one first (Some p) rest all pairs = AllPairs-cons (λ (some later : ℕ × Fate). some.0 < later.0) (first, fate_of v x first p) rest all pairs
+  from_one first None rest all pairs = pairs
 
   none_below : (first n pid : ℕ) → pid < first → fate_in (fates_from v x first n) pid ≡ None
   unfolding fate_in fates_from
@@ -197,6 +213,20 @@ module _ (v : Unix) (x : Wounds) where
     | inr other ↦
       at_other first pid (v.processes first) (fates_from v x (first + 1) n) other ∙ among (first + 1) n pid (grind (arith, nat_tests)) (omega arith)
   ]
+
+  all_above : (least first n : ℕ) → least < first → All (λ (told : ℕ × Fate). least < told.0) (fates_from v x first n)
+  unfolding fates_from
+  all_above least first zero below = All-nil (λ (told : ℕ × Fate). least < told.0)
+  all_above least first (suc n) below = above_one least first (v.processes first) (fates_from v x (first + 1) n) below (all_above least (first + 1) n (omega arith))
+
+  rising : (first n : ℕ) → AllPairs (λ (some later : ℕ × Fate). some.0 < later.0) (fates_from v x first n)
+  unfolding fates_from
+  rising first zero = no_pairs (λ (some later : ℕ × Fate). some.0 < later.0)
+  rising first (suc n) = from_one first (v.processes first) (fates_from v x (first + 1) n) (all_above first (first + 1) n (omega arith)) (rising (first + 1) n)
+
+  pub fates_rise : AllPairs (λ (some later : ℕ × Fate). some.0 < later.0) (fates v x)
+  unfolding fates
+  fates_rise = rising 1 most_pids
 
   pub fate_in_is : (pid : ℕ) → 1 ≤ pid → pid ≤ most_pids → fate_in (fates v x) pid ≡ option_map (λ p. fate_of v x pid p) (v.processes pid)
   unfolding fates

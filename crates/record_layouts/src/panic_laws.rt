@@ -1,12 +1,14 @@
 //! What holds of panics and of what is made of them. The functions do nothing: their contracts are the laws, and some
 //! lines of reports that the check computes.
 
-ghost use Rattle.std.specs.Prelude.{◌≡◌, ◌+◌, ◌≤◌, ℕ, true, false, Some, codes, option_map};
+ghost use Rattle.std.specs.Prelude.{◌≡◌, ◌+◌, ◌≤◌, ◌<◌, ℕ, true, false, List, ◌∷◌, Some, codes, option_map};
+ghost use Rattle.std.specs.List.{AllPairs};
 ghost use Rattle.ow_base.specs.Words.{minus, wrapped};
 ghost use Rattle.ow_base.specs.UserStep.{with_register};
 ghost use Rattle.ow_base.specs.declared.machine.Shape.{Shape};
 ghost use Rattle.ow_base.specs.declared.worlds.Ending.{Ending};
 ghost use Rattle.ow_base.specs.declared.worlds.PanicRecord.{PanicRecord};
+ghost use Rattle.ow_base.specs.declared.worlds.World.{World};
 ghost use Rattle.record_layouts.specs.Unix.State.{most_pids, Unix, Process, Out};
 ghost use Rattle.record_layouts.specs.Unix.Choice.{no_keys};
 ghost use Rattle.record_layouts.specs.Unix.Turn.{ending_of};
@@ -14,7 +16,9 @@ ghost use Rattle.record_layouts.specs.Unix.Traps.{after_trap, closing_of, next_t
 ghost use Rattle.record_layouts.specs.Unix.Broken.{done_of, undone_of};
 ghost use Rattle.record_layouts.specs.Unix.Wounds.{Wounds, no_wounds};
 ghost use Rattle.record_layouts.specs.Unix.Abort.{abort, call_at, fate_in, fate_of, fates, is_made_again, is_undone_caller};
+ghost use Rattle.record_layouts.specs.Unix.Panics.{Due, Images, IsPanicEntry, RunsWith, due_at, state_left};
 ghost use Rattle.record_layouts.specs.Unix.PanicReport.{panic_line};
+ghost use Rattle.record_layouts.specs.declared.fates.Fate.{Fate};
 ghost use Rattle.record_layouts.specs.declared.fates.Fate.TheVariants as fate;
 ghost use Rattle.record_layouts.specs.declared.traps.Trap.{Trap};
 ghost use Rattle.record_layouts.specs.declared.traps.Trap.TheVariants as trap;
@@ -58,10 +62,18 @@ pub const fn closing_traps_are_repeated()
         × ((abort v (no_wounds v)).traps ≡ u.traps + 1) × ((abort v (no_wounds v)).steps ≡ u.steps) }
 {}
 
-/// Each process that was live has one fate, and no other has one.
+/// Each process that was live has one fate, and no other has one. The fates are in the order of the pids.
 pub const fn live_processes_have_fates()
-    ensures { (v : Unix) (x : Wounds) (pid : ℕ) → 1 ≤ pid → pid ≤ most_pids →
+    ensures order { (v : Unix) (x : Wounds) → AllPairs (λ (some later : ℕ × Fate). some.0 < later.0) (fates v x) }
+    ensures one { (v : Unix) (x : Wounds) (pid : ℕ) → 1 ≤ pid → pid ≤ most_pids →
         fate_in (fates v x) pid ≡ option_map (λ p. fate_of v x pid p) (v.processes pid) }
+{}
+
+/// Where a panic is listed for the next trap, the closing one included, it comes: the next entry of the history is of it.
+pub const fn due_panics_come()
+    ensures { (world : World) (images : Images) (u : Unix) (due : Due) (history : List PanicRecord) (told : List (List (ℕ × Fate))) (ending : Ending) (w : Unix) →
+        due_at world u ≡ Some due → RunsWith world images u history told ending w →
+        (r : PanicRecord) × (rest : List PanicRecord) × (history ≡ r ∷ rest) × IsPanicEntry u due r (state_left images u due r) }
 {}
 
 /// The line of a panic has the store that the world lists, and not the number of stores that were made.
