@@ -9,6 +9,7 @@ mod cache;
 mod dead_proc;
 mod desc;
 mod exit;
+mod fates;
 mod file;
 mod head;
 mod intent;
@@ -16,6 +17,7 @@ mod memory_map;
 mod overlay;
 mod overlay_laws;
 mod packing;
+mod panic_laws;
 mod patch;
 mod places;
 mod proc;
@@ -32,6 +34,7 @@ pub use cache::{CacheRec, cache_entries_are_spelled_once};
 pub use dead_proc::DeadProc;
 pub use desc::{DescRec, descriptions_are_spelled_once};
 pub use exit::{ExitRec, exits_are_spelled_once};
+pub use fates::Fate;
 pub use file::{FileRec, files_are_spelled_once};
 pub use head::{HeadRec, heads_are_spelled_once};
 pub use intent::{Change, GATE, Gate, INTENT_KIND, PAYLOAD, SEAL, Span};
@@ -39,6 +42,10 @@ pub use memory_map::MemoryMap;
 pub use overlay::{change_at, gate, open_end, overlaid};
 pub use overlay_laws::{intents_are_read, other_words_stay, the_block_decides};
 pub use ow_base::WordSource;
+pub use panic_laws::{
+    calls_are_undone, closing_traps_are_repeated, due_panics_come, live_processes_have_fates,
+    only_processes_change, outside_goes_on, panics_are_told_as_listed,
+};
 pub use patch::{AnyRec, Patch, PatchItem};
 pub use places::{RecordId, address, records_lie_apart};
 pub use proc::{ProcRec, processes_are_spelled_once};
