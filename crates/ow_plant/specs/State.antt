@@ -1,5 +1,5 @@
 -- What contracts see of the plant.
-use Rattle.std.specs.Prelude.{◌≡◌, ℕ, ◌+◌, ◌-◌, ◌*◌, ◌^◌, ◌≤◌, min, Bool, true, false, MatchBool, nat_lt, ◌==◌, ◌||◌, if◌then◌else◌, List, [], ◌∷◌, ◌++◌, map, length, nat_le, Option, Some, None, is_some}
+use Rattle.std.specs.Prelude.{◌≡◌, ℕ, ◌+◌, ◌-◌, ◌*◌, ◌^◌, ◌≤◌, min, Bool, true, false, MatchBool, nat_lt, ◌==◌, ◌||◌, if◌then◌else◌, List, [], ◌∷◌, ◌++◌, map, length, nat_le, slice_set, Option, Some, None, is_some}
 use Rattle.std.specs.List.{list_any}
 use Rattle.ow_base.specs.Screen.{Screen, blank_screen, drawn}
 use Rattle.ow_base.specs.Sv32.{sv32_space}
@@ -185,6 +185,20 @@ put_on t byte = record t { tape = t.tape ++ byte ∷ []; display = drawn t.displ
 -- the plant with a byte put on a terminal, which is a store
 abbrev pub with_put : PlantState → (tty byte : ℕ) → PlantState
 with_put s tty byte = if tty == 0 then record (counted s) { tty0 = put_on s.tty0 byte } else record (counted s) { tty1 = put_on s.tty1 byte }
+
+-- a row of what is seen is set, or the cursor
+abbrev pub painted : Device → (row : ℕ) → (text : List ℕ) → Device
+painted t row text = record t { display = record { rows = slice_set t.display.rows row text; row = t.display.row; col = t.display.col } }
+
+abbrev pub with_cursor : Device → (row col : ℕ) → Device
+with_cursor t row col = record t { display = record { rows = t.display.rows; row = row; col = col } }
+
+-- the plant with a row of a terminal painted, or its cursor set, which is a store
+abbrev pub with_painted : PlantState → (tty row : ℕ) → (text : List ℕ) → PlantState
+with_painted s tty row text = if tty == 0 then record (counted s) { tty0 = painted s.tty0 row text } else record (counted s) { tty1 = painted s.tty1 row text }
+
+abbrev pub with_cursor_at : PlantState → (tty row col : ℕ) → PlantState
+with_cursor_at s tty row col = if tty == 0 then record (counted s) { tty0 = with_cursor s.tty0 row col } else record (counted s) { tty1 = with_cursor s.tty1 row col }
 
 -- the steps after a trap came: it is one, unless it is the closing one
 abbrev pub stepped_in : Came → (steps : ℕ) → ℕ

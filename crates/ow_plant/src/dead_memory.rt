@@ -1,9 +1,10 @@
 //! What a kernel that does not run any more has left, for one that reads it.
-ghost use Rattle.std.specs.Prelude.{◌≡◌, ◌<◌, ◌≤◌};
+ghost use Rattle.std.specs.Prelude.{◌≡◌, ◌<◌, ◌≤◌, length};
 ghost use Rattle.ow_base.specs.Sv32.{word_or_zero};
+ghost use Rattle.ow_plant.specs.Dead.{frames_for_pages};
 
 use crate::machine::Plant;
-use ow_base::{AreaId, WordSource};
+use ow_base::{AreaId, FRAME_WORDS, PanicRecord, WordSource};
 use panic_handover::HandOver;
 
 /// The memory of a kernel that does not run any more, and what the devices tell beside it.
@@ -75,5 +76,52 @@ impl DeadMemory for Plant {
 
     fn handover(&self) -> Option<HandOver> {
         None
+    }
+}
+
+/// How many frames for pages memory of so many words has in each half: what is left of it beside the boot frame and the
+/// 128 further frames of each half, and at most 384.
+fn frames_for_pages(words: usize) -> u32
+    ensures { result ≡ frames_for_pages words }
+{
+    let frames = (words / FRAME_WORDS as usize).saturating_sub(257) / 2;
+    frames.min(384) as u32
+}
+
+/// A kernel as its panic left it: its disk is not kept yet.
+impl DeadMemory for PanicRecord {
+    ghost use Rattle.ow_plant.specs.Dead.{state_of_record};
+
+    ghost dead = { state_of_record };
+
+    fn area(&self) -> AreaId {
+        self.area
+    }
+
+    fn user_frames(&self) -> u32 {
+        frames_for_pages(self.image.items().len())
+    }
+
+    fn sectors(&self) -> u32 {
+        0
+    }
+
+    fn sector_word(&self, _n: u32, _word: u32) -> u32 {
+        0
+    }
+
+    fn count(&self, tty: u32) -> u32 {
+        self.tapes[tty as usize]
+    }
+
+    #[tactic(auto, unfolding(panic_handover::specs::HandOver::hand_over_in, panic_handover::specs::HandOver::are_hand_over))]
+    fn handover(&self) -> Option<HandOver> {
+        let image = self.image.items();
+        if image.len() < 40 {
+            return None;
+        }
+        let mut words = [0; 40];
+        words.copy_from_slice(&image[..40]);
+        HandOver::from_words(&words)
     }
 }

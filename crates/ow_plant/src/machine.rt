@@ -4,7 +4,7 @@ ghost use Rattle.phys_memory.specs.Memory.{frame_count, words_of};
 ghost use Rattle.std.specs.List.{list_any};
 ghost use Rattle.ow_plant.specs.Points.{ArePoints, has_come, points_of};
 ghost use Rattle.panic_handover.specs.HandOver.{FitsHandOver, may_tell_registers, zero_bank};
-ghost use Rattle.ow_plant.specs.State.{EntersPanic, IsReady, TakesUserTurn, handed_over, is_leave, is_refused, told_of, with_live, returned_to, entered, left_trap, refuses, refuses_leave, first_refusal, store_refused, leave_refused, counted, with_put, with_stored, tty_of, now_of};
+ghost use Rattle.ow_plant.specs.State.{EntersPanic, IsReady, TakesUserTurn, handed_over, is_leave, is_refused, told_of, with_live, returned_to, entered, left_trap, refuses, refuses_leave, first_refusal, store_refused, leave_refused, counted, with_cursor_at, with_painted, with_put, with_stored, tty_of, now_of};
 
 use crate::UserEnd;
 use crate::displays::Display;
@@ -464,6 +464,45 @@ impl Plant {
             self.tty0.put(byte);
         } else {
             self.tty1.put(byte);
+        }
+        Ok(())
+    }
+
+    /// Sets all bytes of a row, below 24, that is seen of a terminal, 0 or 1. It is a store, and `Panicked` comes as from
+    /// `store`; then nothing changes that is seen.
+    pub fn paint(&mut self, tty: u32, row: u32, text: &[u8; 80]) -> Result<(), Panicked>
+        requires armed { self.old.armed ≡ true }
+        requires which { tty < 2 }
+        requires row { row < 24 }
+        ensures exact { IsTrue (refuses self.old) ↔ IsErr result }
+        ensures ok { OnOk result (self.new ≡ with_painted self.old tty row text.now) }
+        ensures err { OnErr result (self.new ≡ store_refused self.old) }
+    {
+        self.count_store()?;
+        if tty == 0 {
+            self.tty0.paint(row, text);
+        } else {
+            self.tty1.paint(row, text);
+        }
+        Ok(())
+    }
+
+    /// Sets the cursor of a terminal, 0 or 1, to a row below 24 and a column below 80. It is a store, and `Panicked` comes
+    /// as from `store`; then the cursor stays.
+    pub fn cursor(&mut self, tty: u32, row: u32, col: u32) -> Result<(), Panicked>
+        requires armed { self.old.armed ≡ true }
+        requires which { tty < 2 }
+        requires row { row < 24 }
+        requires col { col < 80 }
+        ensures exact { IsTrue (refuses self.old) ↔ IsErr result }
+        ensures ok { OnOk result (self.new ≡ with_cursor_at self.old tty row col) }
+        ensures err { OnErr result (self.new ≡ store_refused self.old) }
+    {
+        self.count_store()?;
+        if tty == 0 {
+            self.tty0.set_cursor(row, col);
+        } else {
+            self.tty1.set_cursor(row, col);
         }
         Ok(())
     }
