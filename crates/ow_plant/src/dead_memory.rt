@@ -1,6 +1,7 @@
 //! What a kernel that does not run any more has left, for one that reads it.
-ghost use Rattle.std.specs.Prelude.{◌≡◌, ◌<◌, ◌≤◌, length};
+ghost use Rattle.std.specs.Prelude.{◌≡◌, ◌<◌, ◌≤◌, take};
 ghost use Rattle.ow_base.specs.Sv32.{word_or_zero};
+ghost use Rattle.panic_handover.specs.HandOver.{hand_over_in};
 ghost use Rattle.ow_plant.specs.Dead.{frames_for_pages};
 
 use crate::machine::Plant;
@@ -114,14 +115,20 @@ impl DeadMemory for PanicRecord {
         self.tapes[tty as usize]
     }
 
-    #[tactic(auto, unfolding(panic_handover::specs::HandOver::hand_over_in, panic_handover::specs::HandOver::are_hand_over))]
     fn handover(&self) -> Option<HandOver> {
-        let image = self.image.items();
-        if image.len() < 40 {
-            return None;
-        }
-        let mut words = [0; 40];
-        words.copy_from_slice(&image[..40]);
-        HandOver::from_words(&words)
+        hand_over_in(self.image.items())
     }
+}
+
+/// What was handed over by the first 40 words of some. `None` comes where they are fewer, or spell no hand-over.
+#[tactic(auto, unfolding(panic_handover::specs::HandOver::hand_over_in, panic_handover::specs::HandOver::are_hand_over))]
+pub(crate) fn hand_over_in(words: &[u32]) -> Option<HandOver>
+    ensures { result ≡ hand_over_in (take 40 words.now) }
+{
+    if words.len() < 40 {
+        return None;
+    }
+    let mut first = [0; 40];
+    first.copy_from_slice(&words[..40]);
+    HandOver::from_words(&first)
 }
