@@ -1,7 +1,9 @@
 -- What a kernel that does not run any more has left, for one that reads it.
-use Rattle.std.specs.Prelude.{ℕ, ◌-◌, ◌^◌, min, if◌then◌else◌, length, Option, None, is_some}
+use Rattle.std.specs.Prelude.{ℕ, ◌-◌, ◌/◌, ◌^◌, min, if◌then◌else◌, length, take, slice_index, Option, None, is_some}
 use Rattle.ow_base.specs.Sv32.{WordMap}
 use Rattle.ow_base.specs.declared.machine.AreaId.{AreaId}
+use Rattle.ow_base.specs.declared.worlds.PanicRecord.{PanicRecord}
+use Rattle.panic_handover.specs.HandOver.{hand_over_in}
 use Rattle.panic_handover.specs.declared.hand_over.HandOver.{HandOver}
 use Rattle.phys_memory.specs.Memory.{words_of}
 use Rattle.ow_plant.specs.State.{PlantState, tty_of}
@@ -34,4 +36,19 @@ state_of s = record {
   sector_words = λ sector word. None;
   counts = tape_count s;
   handover = None;
+}
+
+-- the frames for pages in a half of memory of so many words: it has a boot frame, and two halves of 128 frames and these
+abbrev pub frames_for_pages : (words : ℕ) → ℕ
+frames_for_pages words = min ((words / 1024 - 257) / 2) 384
+
+-- a kernel as the record of its panic has it; there is no disk yet
+abbrev pub state_of_record : PanicRecord → DeadState
+state_of_record r = record {
+  area = r.area;
+  user_frames = frames_for_pages (length r.image);
+  sectors = 0;
+  sector_words = λ sector word. None;
+  counts = λ tty. slice_index r.tapes tty;
+  handover = hand_over_in (take 40 r.image);
 }

@@ -3,3 +3,6 @@ pub mod Dead
 pub mod Points
 pub mod Past
 pub mod State
+pub mod Lent
+pub mod Owning
+pub mod Lending

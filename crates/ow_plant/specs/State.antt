@@ -1,5 +1,5 @@
 -- What contracts see of the plant.
-use Rattle.std.specs.Prelude.{◌≡◌, ℕ, ◌+◌, ◌-◌, ◌*◌, ◌^◌, ◌≤◌, min, Bool, true, false, MatchBool, nat_lt, ◌==◌, ◌||◌, if◌then◌else◌, List, [], ◌∷◌, ◌++◌, map, length, nat_le, Option, Some, None, is_some}
+use Rattle.std.specs.Prelude.{◌≡◌, ℕ, ◌+◌, ◌-◌, ◌*◌, ◌^◌, ◌≤◌, min, Bool, true, false, MatchBool, nat_lt, ◌==◌, ◌||◌, if◌then◌else◌, List, [], ◌∷◌, ◌++◌, map, length, nat_le, slice_set, Option, Some, None, is_some}
 use Rattle.std.specs.List.{list_any}
 use Rattle.ow_base.specs.Screen.{Screen, blank_screen, drawn}
 use Rattle.ow_base.specs.Sv32.{sv32_space}
@@ -113,27 +113,22 @@ pub record IsArmed (s : PlantState) : Type 0 where
   pub sized : IsSized s.shape.user_frames s.memory
   pub few_frames : s.shape.user_frames ≤ 384
 
--- what holds of every plant: it has no frame before it is armed, and never more than 384 for pages in a half; its budget
--- is at most 2000000, and each terminal has room for 16 bytes a step of it
-pub record FitsShape (armed : Bool) (shape : Shape) (memory : MemoryParts) (tty0 tty1 : Device) : Type 0 where
+-- what holds of every plant: it has no frame before it is armed, and never more than 384 for pages in a half
+pub record FitsShape (armed : Bool) (user_frames : ℕ) (memory : MemoryParts) : Type 0 where
   pub none_before : armed ≡ false → frame_count memory ≡ 0
-  pub few_frames : shape.user_frames ≤ 384
-  pub few_steps : shape.budget ≤ 2000000
-  pub room0 : tty0.room ≡ 16 * shape.budget
-  pub room1 : tty1.room ≡ 16 * shape.budget
+  pub few_frames : user_frames ≤ 384
 
--- what holds of every plant beside: memory has the size of the shape once it is armed; there is room for the words of
--- memory at each panic that is to come; and a refusal stands only in a trap that has come to a point
-pub record HasRoom (armed : Bool) (shape : Shape) (memory : MemoryParts) (points : List PanicPoint) (refused : Option Refusal) (traps : ℕ) (past : PastPanics) : Type 0 where
-  pub sized : armed ≡ true → IsSized shape.user_frames memory
-  pub words : armed ≡ true → past.words ≡ 1024 * (257 + 2 * shape.user_frames)
+-- what holds of every plant beside: there is room for the words of memory at each panic that is to come; and while no
+-- other kernel takes over, a refusal stands only in a trap that has come to a point
+pub record HasRoom (armed : Bool) (user_frames : ℕ) (points : List PanicPoint) (reviving : Bool) (refused : Option Refusal) (traps : ℕ) (past : PastPanics) : Type 0 where
+  pub words : armed ≡ true → past.words ≡ 1024 * (257 + 2 * user_frames)
   pub one_each : coming points ≤ past.room
-  pub due : is_some refused ≡ true → list_any (has_come traps) points ≡ true
+  pub due : reviving ≡ false → is_some refused ≡ true → list_any (has_come traps) points ≡ true
 
 -- what holds of every plant
-pub record IsPlant (armed : Bool) (shape : Shape) (memory : MemoryParts) (tty0 tty1 : Device) (points : List PanicPoint) (refused : Option Refusal) (traps : ℕ) (past : PastPanics) : Type 0 where
-  pub fits : FitsShape armed shape memory tty0 tty1
-  pub room : HasRoom armed shape memory points refused traps past
+pub record IsPlant (armed : Bool) (user_frames : ℕ) (memory : MemoryParts) (points : List PanicPoint) (reviving : Bool) (refused : Option Refusal) (traps : ℕ) (past : PastPanics) : Type 0 where
+  pub fits : FitsShape armed user_frames memory
+  pub room : HasRoom armed user_frames points reviving refused traps past
 
 -- a refusal stands
 abbrev pub is_refused : PlantState → Bool
@@ -185,6 +180,20 @@ put_on t byte = record t { tape = t.tape ++ byte ∷ []; display = drawn t.displ
 -- the plant with a byte put on a terminal, which is a store
 abbrev pub with_put : PlantState → (tty byte : ℕ) → PlantState
 with_put s tty byte = if tty == 0 then record (counted s) { tty0 = put_on s.tty0 byte } else record (counted s) { tty1 = put_on s.tty1 byte }
+
+-- a row of what is seen is set, or the cursor
+abbrev pub painted : Device → (row : ℕ) → (text : List ℕ) → Device
+painted t row text = record t { display = record { rows = slice_set t.display.rows row text; row = t.display.row; col = t.display.col } }
+
+abbrev pub with_cursor : Device → (row col : ℕ) → Device
+with_cursor t row col = record t { display = record { rows = t.display.rows; row = row; col = col } }
+
+-- the plant with a row of a terminal painted, or its cursor set, which is a store
+abbrev pub with_painted : PlantState → (tty row : ℕ) → (text : List ℕ) → PlantState
+with_painted s tty row text = if tty == 0 then record (counted s) { tty0 = painted s.tty0 row text } else record (counted s) { tty1 = painted s.tty1 row text }
+
+abbrev pub with_cursor_at : PlantState → (tty row col : ℕ) → PlantState
+with_cursor_at s tty row col = if tty == 0 then record (counted s) { tty0 = with_cursor s.tty0 row col } else record (counted s) { tty1 = with_cursor s.tty1 row col }
 
 -- the steps after a trap came: it is one, unless it is the closing one
 abbrev pub stepped_in : Came → (steps : ℕ) → ℕ

@@ -1,9 +1,11 @@
 //! What a kernel that does not run any more has left, for one that reads it.
-ghost use Rattle.std.specs.Prelude.{◌≡◌, ◌<◌, ◌≤◌};
+ghost use Rattle.std.specs.Prelude.{◌≡◌, ◌<◌, ◌≤◌, take};
 ghost use Rattle.ow_base.specs.Sv32.{word_or_zero};
+ghost use Rattle.panic_handover.specs.HandOver.{hand_over_in};
+ghost use Rattle.ow_plant.specs.Dead.{frames_for_pages};
 
 use crate::machine::Plant;
-use ow_base::{AreaId, WordSource};
+use ow_base::{AreaId, FRAME_WORDS, PanicRecord, WordSource};
 use panic_handover::HandOver;
 
 /// The memory of a kernel that does not run any more, and what the devices tell beside it.
@@ -76,4 +78,57 @@ impl DeadMemory for Plant {
     fn handover(&self) -> Option<HandOver> {
         None
     }
+}
+
+/// How many frames for pages memory of so many words has in each half: what is left of it beside the boot frame and the
+/// 128 further frames of each half, and at most 384.
+fn frames_for_pages(words: usize) -> u32
+    ensures { result ≡ frames_for_pages words }
+{
+    let frames = (words / FRAME_WORDS as usize).saturating_sub(257) / 2;
+    frames.min(384) as u32
+}
+
+/// A kernel as its panic left it: its disk is not kept yet.
+impl DeadMemory for PanicRecord {
+    ghost use Rattle.ow_plant.specs.Dead.{state_of_record};
+
+    ghost dead = { state_of_record };
+
+    fn area(&self) -> AreaId {
+        self.area
+    }
+
+    fn user_frames(&self) -> u32 {
+        frames_for_pages(self.image.items().len())
+    }
+
+    fn sectors(&self) -> u32 {
+        0
+    }
+
+    fn sector_word(&self, _n: u32, _word: u32) -> u32 {
+        0
+    }
+
+    fn count(&self, tty: u32) -> u32 {
+        self.tapes[tty as usize]
+    }
+
+    fn handover(&self) -> Option<HandOver> {
+        hand_over_in(self.image.items())
+    }
+}
+
+/// What was handed over by the first 40 words of some. `None` comes where they are fewer, or spell no hand-over.
+#[tactic(auto, unfolding(panic_handover::specs::HandOver::hand_over_in, panic_handover::specs::HandOver::are_hand_over))]
+pub(crate) fn hand_over_in(words: &[u32]) -> Option<HandOver>
+    ensures { result ≡ hand_over_in (take 40 words.now) }
+{
+    if words.len() < 40 {
+        return None;
+    }
+    let mut first = [0; 40];
+    first.copy_from_slice(&words[..40]);
+    HandOver::from_words(&first)
 }

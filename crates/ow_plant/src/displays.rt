@@ -1,5 +1,5 @@
 //! The display of a terminal.
-ghost use Rattle.std.specs.Prelude.{◌≡◌, ℕ, ◌<◌, [], ◌∷◌, ◌++◌, drop, length, slice_index_or};
+ghost use Rattle.std.specs.Prelude.{◌≡◌, ℕ, ◌<◌, [], ◌∷◌, ◌++◌, drop, length, slice_index_or, slice_set};
 ghost use Rattle.ow_base.specs.Screen.{blank_row, blank_screen, on_next_line, printed, drawn};
 
 use std::marker::Model;
@@ -59,6 +59,24 @@ impl Display {
         ensures shape { length self.now.rows ≡ 24 }
     {
         (self.row, self.col)
+    }
+
+    /// Sets all bytes of a row, below 24. The cursor stays.
+    pub(crate) fn paint(&mut self, row: u32, text: &[u8; 80])
+        requires { row < 24 }
+        ensures { self.new ≡ record self.old { rows = slice_set self.old.rows row text.now } }
+    {
+        self.rows[row as usize] = *text;
+    }
+
+    /// Sets the cursor to a row below 24 and a column below 80. No row changes.
+    pub(crate) fn set_cursor(&mut self, row: u32, col: u32)
+        requires row { row < 24 }
+        requires col { col < 80 }
+        ensures { self.new ≡ record self.old { row = row; col = col } }
+    {
+        self.row = row;
+        self.col = col;
     }
 
     /// Draws a byte: 32 to 126 are seen, 8, 10 and 13 move the cursor, and others do nothing.

@@ -3,21 +3,27 @@
 //! on. A panic is entered where one was refused. It has no disk yet, and nothing is typed.
 #![tactic(auto)]
 
+mod dead_half;
 mod dead_memory;
 mod displays;
+mod lent;
 mod machine;
+mod own_half;
 mod past;
 mod points;
 mod refusal;
 mod terminals;
 mod user_memory;
 
+pub use dead_half::Dead;
 pub use dead_memory::DeadMemory;
 pub use displays::Display;
+pub use lent::Lent;
 pub use machine::Plant;
 pub use ow_base::{
     AreaId, Bank, Came, Fault, KeyByte, Now, PanicRecord, Panicked, Point, Regs, Shape,
 };
+pub use own_half::{Own, OwnPlace};
 pub use panic_handover::HandOver;
 pub use refusal::Refusal;
 

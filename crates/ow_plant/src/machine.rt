@@ -1,17 +1,25 @@
 //! The plant: processor, memory and terminals.
-ghost use Rattle.std.specs.Prelude.{◌≡◌, ◌≢◌, if◌then◌else◌, ℕ, ◌+◌, ◌*◌, ◌^◌, ◌<◌, ◌≤◌, ◌↔◌, true, false, [], None, length, is_some, IsTrue, IsErr, IsNone, IfSome, OnOk, OnErr};
-ghost use Rattle.phys_memory.specs.Memory.{frame_count, words_of};
-ghost use Rattle.std.specs.List.{list_any};
-ghost use Rattle.ow_plant.specs.Points.{ArePoints, has_come, points_of};
+ghost use Rattle.std.specs.Prelude.{◌≡◌, ◌≢◌, if◌then◌else◌, ℕ, ◌+◌, ◌*◌, ◌^◌, ◌<◌, ◌≤◌, ◌↔◌, true, false, [], None, length, is_some, IsTrue, IsErr, IsNone, IfOk, IfSome, OnOk, OnErr};
+ghost use Rattle.std.specs.Borrow.{sem};
+ghost use Rattle.phys_memory.specs.Halves.{with_own, words_beside};
+ghost use Rattle.phys_memory.specs.Reading.{words_read};
+ghost use Rattle.phys_memory.specs.Memory.{frame_count, with_word, words_of, zeroed};
+ghost use Rattle.ow_plant.specs.Points.{ArePoints, points_of};
 ghost use Rattle.panic_handover.specs.HandOver.{FitsHandOver, may_tell_registers, zero_bank};
-ghost use Rattle.ow_plant.specs.State.{EntersPanic, IsReady, TakesUserTurn, handed_over, is_leave, is_refused, told_of, with_live, returned_to, entered, left_trap, refuses, refuses_leave, first_refusal, store_refused, leave_refused, counted, with_put, with_stored, tty_of, now_of};
+ghost use Rattle.ow_plant.specs.Lent.{lent_at_first, lent_of};
+ghost use Rattle.ow_plant.specs.Lending.{LendsOwn};
+ghost use Rattle.ow_plant.specs.Owning.{IsPlaceIn, left_by, left_in};
+ghost use Rattle.ow_base.specs.declared.machine.AreaId.TheVariants as AreaId;
+ghost use Rattle.ow_plant.specs.State.{EntersPanic, IsArmed, IsReady, TakesUserTurn, handed_over, is_leave, is_refused, told_of, with_live, returned_to, entered, left_trap, refuses, refuses_leave, store_refused, leave_refused, counted, with_cursor_at, with_painted, with_put, with_stored, tty_of, now_of};
 
 use crate::UserEnd;
+use crate::dead_half::Dead;
 use crate::displays::Display;
+use crate::lent::Lent;
+use crate::own_half::{Own, OwnPlace};
 use crate::past::{Past, Told};
 use crate::points::PanicPoints;
 use crate::refusal::Refusal;
-use crate::terminals::Tty;
 use crate::user_memory::UserMemory;
 use ow_base::{AreaId, Bank, Came, FRAME_WORDS, KeyByte, Now, PanicRecord, Panicked, Point, Regs, Shape, WordSource};
 use panic_handover::HandOver;
@@ -26,24 +34,6 @@ const SV32: u32 = 1 << 31;
 /// The words of a frame.
 const FRAME_LENGTH: usize = FRAME_WORDS as usize;
 
-/// How often things were done. Each count stops at its last value.
-#[derive(Clone, Copy)]
-struct Counts {
-    steps: u32,
-    traps: u32,
-    /// Stores in the trap that was begun last, and before the first at boot.
-    stores: u32,
-    all_stores: u64,
-}
-
-/// The counts of a machine that has done nothing.
-const NOTHING_DONE: Counts = Counts {
-    steps: 0,
-    traps: 0,
-    stores: 0,
-    all_stores: 0,
-};
-
 /// The machine that a kernel runs on: memory, two terminals, the processor's registers, and counts of steps,
 /// traps and stores.
 ///
@@ -56,48 +46,52 @@ const NOTHING_DONE: Counts = Counts {
 #[derive(Drop)]
 pub struct Plant {
     armed: bool,
-    shape: Shape,
+    user_frames: u32,
+    sectors: u32,
+    quantum: u32,
+    /// Memory, in which other frames stand in the place of the half that is not live.
     seen: UserMemory,
     bank: Bank,
     in_user: bool,
     user_pid: u32,
     slice: u32,
-    tty0: Tty,
-    tty1: Tty,
-    counts: Counts,
+    /// The steps made and the traps begun. Each count stops at its last value.
+    steps: u32,
+    traps: u32,
     points: PanicPoints,
     reviving: bool,
-    refusal: Option<Refusal>,
     in_trap: bool,
     came: Came,
     trap_pid: u32,
     live: AreaId,
     past: Past,
+    lent: Lent,
 }
 
 impl Model for Plant {
+    ghost use Rattle.phys_memory.specs.Halves.{with_own};
     ghost use Rattle.ow_plant.specs.State.{PlantState, IsPlant};
 
     ghost Value = { PlantState };
 
     ghost view = { λ p. record {
       armed = p.armed;
-      shape = p.shape;
-      memory = p.seen.memory;
+      shape = record { user_frames = p.user_frames; sectors = p.sectors; quantum = p.quantum; budget = p.lent.budget };
+      memory = with_own p.seen.memory p.live p.lent.own;
       satp = p.seen.satp;
       bank = p.bank;
       in_user = p.in_user;
       user_pid = p.user_pid;
       slice = p.slice;
-      tty0 = p.tty0;
-      tty1 = p.tty1;
-      steps = p.counts.steps;
-      traps = p.counts.traps;
+      tty0 = p.lent.tty0;
+      tty1 = p.lent.tty1;
+      steps = p.steps;
+      traps = p.traps;
       points = p.points;
       reviving = p.reviving;
-      stores = p.counts.stores;
-      all_stores = p.counts.all_stores;
-      refusal = p.refusal;
+      stores = p.lent.stores;
+      all_stores = p.lent.all_stores;
+      refusal = p.lent.refusal;
       in_trap = p.in_trap;
       came = p.came;
       trap_pid = p.trap_pid;
@@ -105,7 +99,22 @@ impl Model for Plant {
       history = p.past.entries;
     } };
 
-    ghost invariant = { λ p. IsPlant p.armed p.shape p.seen.memory p.tty0 p.tty1 p.points p.refusal p.counts.traps p.past };
+    ghost invariant = { λ p. IsPlant p.armed p.user_frames (with_own p.seen.memory p.live p.lent.own) p.points p.reviving p.lent.refusal p.traps p.past };
+}
+
+/// Memory with 0 in each word, of which half B lies apart, and with it two silent terminals. `AllocError` comes only for
+/// want of memory.
+fn blank_machine(alloc: Global, shape: Shape) -> Result<(UserMemory, Lent), AllocError>
+    requires frames { shape.user_frames ≤ 384 }
+    requires budget { shape.budget ≤ 2000000 }
+    ensures memory { IfOk result (λ made. with_own made.0.memory AreaId.A made.1.own ≡ zeroed shape.user_frames) }
+    ensures lent { IfOk result (λ made. made.1 ≡ lent_at_first shape made.1.own) }
+{
+    let memory = Memory::new(alloc, shape.user_frames)?;
+    let mut lent = Lent::with_budget(alloc, shape.budget)?;
+    let mut seen = UserMemory { memory, satp: SV32 };
+    lent.exchange(&mut seen, AreaId::A);
+    Ok((seen, lent))
 }
 
 impl Plant {
@@ -116,19 +125,15 @@ impl Plant {
         ensures points { result.points ≡ [] }
         ensures history { result.history ≡ [] }
     {
-        let shape = Shape {
-            user_frames: 0,
-            sectors: 0,
-            quantum: 0,
-            budget: 0,
-        };
         let bank = Bank {
             pc: 0,
             regs: Regs::new(),
         };
         Plant {
             armed: false,
-            shape,
+            user_frames: 0,
+            sectors: 0,
+            quantum: 0,
             seen: UserMemory {
                 memory: Memory::without_frames(alloc),
                 satp: SV32,
@@ -137,17 +142,16 @@ impl Plant {
             in_user: false,
             user_pid: 0,
             slice: 0,
-            tty0: Tty::new(alloc),
-            tty1: Tty::new(alloc),
-            counts: NOTHING_DONE,
+            steps: 0,
+            traps: 0,
             points: PanicPoints::none(alloc),
             reviving: false,
-            refusal: None,
             in_trap: false,
             came: Came::Kernel,
             trap_pid: 0,
             live: AreaId::A,
             past: Past::none(alloc),
+            lent: Lent::none(alloc),
         }
     }
 
@@ -174,28 +178,26 @@ impl Plant {
         ensures points { OnOk result (self.new.points ≡ points_of points.now) }
         ensures err { OnErr result (self.new ≡ self.old) }
     {
-        let room = 16 * shape.budget as usize;
-        let memory = Memory::new(alloc, shape.user_frames)?;
-        let tty0 = Tty::with_room(alloc, room)?;
-        let tty1 = Tty::with_room(alloc, room)?;
+        let (seen, lent) = blank_machine(alloc, shape)?;
         let words = FRAME_LENGTH * (257 + 2 * shape.user_frames as usize);
         let past = Past::with_room(alloc, points.len(), words)?;
         let points = PanicPoints::of(alloc, points)?;
         self.armed = true;
-        self.shape = shape;
-        self.seen.memory = memory;
+        self.user_frames = shape.user_frames;
+        self.sectors = shape.sectors;
+        self.quantum = shape.quantum;
+        self.seen = seen;
         self.in_user = false;
-        self.tty0 = tty0;
-        self.tty1 = tty1;
-        self.counts = NOTHING_DONE;
+        self.steps = 0;
+        self.traps = 0;
         self.points = points;
         self.reviving = false;
-        self.refusal = None;
         self.in_trap = false;
         self.came = Came::Kernel;
         self.trap_pid = 0;
         self.live = AreaId::A;
         self.past = past;
+        self.lent = lent;
         Ok(())
     }
 
@@ -207,7 +209,7 @@ impl Plant {
         requires frame { frame < frame_count self.now.memory }
         ensures { words_of self.now.memory frame word ≡ Some result }
     {
-        match self.seen.memory.load(frame, word) {
+        match self.lent.load_with(self.seen.memory(), self.live, frame, word) {
             Some(value) => value,
             None => unreachable!(),
         }
@@ -224,24 +226,27 @@ impl Plant {
         ensures err { OnErr result (self.new ≡ store_refused self.old) }
     {
         self.count_store()?;
-        self.seen.set_word(frame, word, value);
+        self.set_word(frame, word, value);
         Ok(())
     }
 
-    /// Whether a store is refused now: then a point of the trap has come.
-    fn refuses_store(&self) -> bool
-        ensures value { result ≡ refuses self.now }
-        ensures due { result ≡ true → list_any (has_come self.now.traps) self.now.points ≡ true }
+    /// Sets the word of a frame that is there.
+    fn set_word(&mut self, frame: u32, word: u32, value: u32)
+        requires armed { self.old.armed ≡ true }
+        requires word { word < 1024 }
+        requires frame { frame < frame_count self.old.memory }
+        ensures { self.new ≡ record self.old { memory = with_word self.old.memory frame word value } }
     {
-        self.refusal.is_some() || self.points.is_past(self.counts.traps, self.counts.stores)
+        self.lent.exchange(&mut self.seen, self.live);
+        self.seen.set_word(frame, word, value);
+        self.lent.exchange(&mut self.seen, self.live);
     }
 
     /// Whether the end of the trap is refused now: then a point of it has come.
     fn refuses_leave(&self) -> bool
         ensures value { result ≡ refuses_leave self.now }
-        ensures due { result ≡ true → list_any (has_come self.now.traps) self.now.points ≡ true }
     {
-        self.refusal.is_some() || self.points.has(self.counts.traps)
+        self.lent.refusal().is_some() || self.points.has(self.traps)
     }
 
     /// Counts the store that is made next, or refuses it.
@@ -250,26 +255,7 @@ impl Plant {
         ensures ok { OnOk result (self.new ≡ counted self.old) }
         ensures err { OnErr result (self.new ≡ store_refused self.old) }
     {
-        if self.refuses_store() {
-            return self.refuse(Refusal::Store);
-        }
-        self.counts.stores = self.counts.stores.saturating_add(1);
-        self.counts.all_stores = self.counts.all_stores.saturating_add(1);
-        Ok(())
-    }
-
-    /// Refuses what was asked for, and every store from now on. A refusal that stands stays.
-    #[tactic(auto, using(crate::proofs::Room::plant_refused))]
-    fn refuse(&mut self, one: Refusal) -> Result<(), Panicked>
-        requires due { list_any (has_come self.old.traps) self.old.points ≡ true }
-        ensures refuses { IsErr result }
-        ensures stands { self.new ≡ record self.old { refusal = first_refusal self.old.refusal one } }
-    {
-        self.refusal = match self.refusal {
-            Some(stands) => Some(stands),
-            None => Some(one),
-        };
-        Err(Panicked)
+        self.lent.count_store(&self.points, self.traps)
     }
 
     /// Makes what was stored in page tables count for what a program sees. There is no translation cache yet,
@@ -322,7 +308,7 @@ impl Plant {
         requires armed { self.now.armed ≡ true }
         ensures { result ≡ self.now.steps }
     {
-        self.counts.steps
+        self.steps
     }
 
     /// The traps begun. The count stops at its last value.
@@ -330,7 +316,7 @@ impl Plant {
         requires armed { self.now.armed ≡ true }
         ensures { result ≡ self.now.traps }
     {
-        self.counts.traps
+        self.traps
     }
 
     /// The stores made in the trap that was begun last, and before the first at boot. The count stops at its last
@@ -339,7 +325,7 @@ impl Plant {
         requires armed { self.now.armed ≡ true }
         ensures { result ≡ self.now.stores }
     {
-        self.counts.stores
+        self.lent.stores().0
     }
 
     /// The stores made in all. The count stops at its last value.
@@ -347,7 +333,7 @@ impl Plant {
         requires armed { self.now.armed ≡ true }
         ensures { result ≡ self.now.all_stores }
     {
-        self.counts.all_stores
+        self.lent.stores().1
     }
 
     /// The area of the kernel that runs.
@@ -364,14 +350,14 @@ impl Plant {
         ensures fits { result.user_frames ≤ 384 }
     {
         let trap = if self.in_trap {
-            self.counts.traps
+            self.traps
         } else {
-            self.counts.traps.saturating_add(1)
+            self.traps.saturating_add(1)
         };
         Now {
             trap,
-            user_frames: self.shape.user_frames,
-            sectors: self.shape.sectors,
+            user_frames: self.user_frames,
+            sectors: self.sectors,
             arrived: [0, 0],
             typed: [0, 0],
         }
@@ -387,7 +373,7 @@ impl Plant {
         ensures few_steps { self.now.shape.budget ≤ 2000000 }
         ensures room { (tty : ℕ) → tty < 2 → (tty_of self.now tty).room ≡ 16 * self.now.shape.budget }
     {
-        let _ = &self.armed;
+        self.lent.fits_budget();
     }
 
     /// A turn of the process in user mode. After `quantum` instructions its slice is over, and nothing is
@@ -398,13 +384,16 @@ impl Plant {
         ensures turn { TakesUserTurn self.old self.new result }
         ensures pc { self.old.bank.pc < 2 ^ 32 }
     {
-        if self.slice >= self.shape.quantum {
+        if self.slice >= self.quantum {
             return UserEnd::Slice;
         }
-        match step(&mut self.bank.regs, &mut self.bank.pc, &mut self.seen) {
+        self.lent.exchange(&mut self.seen, self.live);
+        let end = step(&mut self.bank.regs, &mut self.bank.pc, &mut self.seen);
+        self.lent.exchange(&mut self.seen, self.live);
+        match end {
             StepEnd::Next => {
                 self.slice += 1;
-                self.counts.steps = self.counts.steps.saturating_add(1);
+                self.steps = self.steps.saturating_add(1);
                 UserEnd::Next
             }
             StepEnd::Call => UserEnd::Call,
@@ -422,14 +411,11 @@ impl Plant {
         self.in_trap = true;
         self.came = came;
         self.trap_pid = pid;
-        self.counts.traps = self.counts.traps.saturating_add(1);
-        self.counts.stores = 0;
+        self.traps = self.traps.saturating_add(1);
+        self.lent.begin_count();
         match came {
             Came::Closing => {}
-            Came::Kernel | Came::User | Came::Call => self.counts.steps = self
-                .counts
-                .steps
-                .saturating_add(1),
+            Came::Kernel | Came::User | Came::Call => self.steps = self.steps.saturating_add(1),
         }
     }
 
@@ -442,7 +428,7 @@ impl Plant {
         ensures err { OnErr result (self.new ≡ leave_refused self.old) }
     {
         if self.refuses_leave() {
-            self.refuse(Refusal::Leave)
+            self.lent.refuse(Refusal::Leave)
         } else {
             self.in_trap = false;
             Ok(())
@@ -460,11 +446,38 @@ impl Plant {
         ensures err { OnErr result (self.new ≡ store_refused self.old) }
     {
         self.count_store()?;
-        if tty == 0 {
-            self.tty0.put(byte);
-        } else {
-            self.tty1.put(byte);
-        }
+        self.lent.put(tty, byte);
+        Ok(())
+    }
+
+    /// Sets all bytes of a row, below 24, that is seen of a terminal, 0 or 1. It is a store, and `Panicked` comes as from
+    /// `store`; then nothing changes that is seen.
+    pub fn paint(&mut self, tty: u32, row: u32, text: &[u8; 80]) -> Result<(), Panicked>
+        requires armed { self.old.armed ≡ true }
+        requires which { tty < 2 }
+        requires row { row < 24 }
+        ensures exact { IsTrue (refuses self.old) ↔ IsErr result }
+        ensures ok { OnOk result (self.new ≡ with_painted self.old tty row text.now) }
+        ensures err { OnErr result (self.new ≡ store_refused self.old) }
+    {
+        self.count_store()?;
+        self.lent.paint(tty, row, text);
+        Ok(())
+    }
+
+    /// Sets the cursor of a terminal, 0 or 1, to a row below 24 and a column below 80. It is a store, and `Panicked` comes
+    /// as from `store`; then the cursor stays.
+    pub fn cursor(&mut self, tty: u32, row: u32, col: u32) -> Result<(), Panicked>
+        requires armed { self.old.armed ≡ true }
+        requires which { tty < 2 }
+        requires row { row < 24 }
+        requires col { col < 80 }
+        ensures exact { IsTrue (refuses self.old) ↔ IsErr result }
+        ensures ok { OnOk result (self.new ≡ with_cursor_at self.old tty row col) }
+        ensures err { OnErr result (self.new ≡ store_refused self.old) }
+    {
+        self.count_store()?;
+        self.lent.set_cursor(tty, row, col);
         Ok(())
     }
 
@@ -474,11 +487,7 @@ impl Plant {
         requires which { tty < 2 }
         ensures { result.now ≡ (tty_of self.now tty).tape }
     {
-        if tty == 0 {
-            self.tty0.tape()
-        } else {
-            self.tty1.tape()
-        }
+        self.lent.tape(tty)
     }
 
     /// What is seen of a terminal, 0 or 1.
@@ -487,11 +496,7 @@ impl Plant {
         requires which { tty < 2 }
         ensures { result.now ≡ (tty_of self.now tty).display }
     {
-        if tty == 0 {
-            self.tty0.display()
-        } else {
-            self.tty1.display()
-        }
+        self.lent.display(tty)
     }
 
     /// What the processor came with into the trap that was begun last, where it came from a program.
@@ -526,7 +531,7 @@ impl Plant {
             0
         };
         HandOver {
-            trap: self.counts.traps,
+            trap: self.traps,
             pid,
             came: self.came,
             bank: self.handed_bank(pid),
@@ -537,42 +542,84 @@ impl Plant {
     fn told(&self) -> Told
         ensures { result ≡ told_of self.now }
     {
-        let at_leave = match self.refusal {
+        let at_leave = match self.lent.refusal() {
             Some(Refusal::Leave) => true,
             Some(Refusal::Store) | None => false,
         };
         Told {
-            trap: self.counts.traps,
-            store: self.counts.stores,
-            listed: self.points.listed_for(self.counts.traps),
+            trap: self.traps,
+            store: self.lent.stores().0,
+            listed: self.points.listed_for(self.traps),
             at_leave,
             pid: self.handed_over().pid,
             area: self.live,
-            tapes: [self.tty0.count(), self.tty1.count()],
+            tapes: [self.lent.count(0), self.lent.count(1)],
         }
     }
 
     /// Enters the panic of a kernel to which a store, or the end of a trap, was refused: the hand-over is written to the
     /// first words of memory, both displays are blanked, and the history takes a record of the panic with the words that
     /// memory then has. It takes no memory. The refusal is over then.
+    #[tactic(auto, using(crate::proofs::Room::put_back))]
     pub fn panic_entry(&mut self)
-        requires armed { self.old.armed ≡ true }
+        requires armed { IsArmed self.old }
         requires refused { is_refused self.old ≡ true }
         requires first { self.old.reviving ≡ false }
         ensures { EntersPanic self.old self.new }
     {
         let handed_over = self.handed_over();
         let told = self.told();
+        self.lent.exchange(&mut self.seen, self.live);
         self.seen.set_first(&handed_over.to_words());
         self.past.add(told, self.seen.memory());
-        self.points.enter(self.counts.traps);
-        self.tty0.blank();
-        self.tty1.blank();
-        self.counts.stores = 0;
-        self.refusal = None;
+        self.lent.exchange(&mut self.seen, self.live);
+        self.lent.panic();
+        self.points.enter(self.traps);
         self.in_user = false;
         self.in_trap = false;
         self.reviving = true;
+    }
+
+    /// Lends what a kernel that takes over needs, both at once: what the dead one left, only for reading, and its own half of
+    /// memory, the terminals and their counts for stores. Until `set_live` answers `Ok` no other call lends memory for
+    /// writing.
+    ///
+    /// When the loans are over, the plant is as it was, with what was lent as it was left.
+    pub fn resurrection(&mut self) -> (Dead<'_>, Own<'_>)
+        requires armed { self.old.armed ≡ true }
+        requires reviving { self.old.reviving ≡ true }
+        ensures* lends { sem 𝓛 (LendsOwn self.entry result.1) }
+        ensures dead_words { words_read result.0.words ≡ words_beside self.old.memory self.old.live }
+        ensures left { left_in result.0 ≡ left_by self.old }
+        ensures own { result.1.lent.now ≡ lent_of self.old }
+        ensures place { IsPlaceIn self.old result.1.place }
+    {
+        let area = self.live;
+        let user_frames = self.user_frames;
+        let sectors = self.sectors;
+        let trap = self.traps;
+        let own_frames = self.lent.frame_count();
+        let count0 = self.lent.count(0);
+        let count1 = self.lent.count(1);
+        let first = self.seen.first_own(area);
+        (
+            Dead {
+                words: self.seen.beside(area, own_frames),
+                area,
+                user_frames,
+                sectors,
+                count0,
+                count1,
+            },
+            Own {
+                lent: &mut self.lent,
+                place: OwnPlace {
+                    points: &self.points,
+                    trap,
+                    first,
+                },
+            },
+        )
     }
 
     /// Makes the area live that is not, which ends what a panic began. It is a store, and `Panicked` comes as from
@@ -586,6 +633,8 @@ impl Plant {
         ensures err { OnErr result (self.new ≡ store_refused self.old) }
     {
         self.count_store()?;
+        self.lent.exchange(&mut self.seen, self.live);
+        self.lent.exchange(&mut self.seen, area);
         self.live = area;
         self.reviving = false;
         Ok(())
@@ -603,6 +652,6 @@ impl WordSource for Plant {
     ghost words = { λ p. words_of p.memory };
 
     fn load(&self, frame: u32, word: u32) -> Option<u32> {
-        self.seen.memory.load(frame, word)
+        self.lent.load_with(self.seen.memory(), self.live, frame, word)
     }
 }

@@ -1,6 +1,6 @@
 //! A terminal: a tape of the bytes written, and a display.
 ghost use Rattle.std.specs.Prelude.{◌≡◌, ℕ, ◌^◌, ◌<◌, length, IfOk};
-ghost use Rattle.ow_plant.specs.State.{silent_device, blanked, put_on};
+ghost use Rattle.ow_plant.specs.State.{silent_device, blanked, painted, put_on, with_cursor};
 
 use crate::displays::Display;
 use std::alloc::{AllocError, Global};
@@ -74,6 +74,23 @@ impl Tty {
         ensures { self.new ≡ blanked self.old }
     {
         self.display = Display::new();
+    }
+
+    /// Sets all bytes of a row that is seen, below 24.
+    pub(crate) fn paint(&mut self, row: u32, text: &[u8; 80])
+        requires { row < 24 }
+        ensures { self.new ≡ painted self.old row text.now }
+    {
+        self.display.paint(row, text);
+    }
+
+    /// Sets the cursor to a row below 24 and a column below 80.
+    pub(crate) fn set_cursor(&mut self, row: u32, col: u32)
+        requires row { row < 24 }
+        requires col { col < 80 }
+        ensures { self.new ≡ with_cursor self.old row col }
+    {
+        self.display.set_cursor(row, col);
     }
 
     /// What is seen.

@@ -3,8 +3,8 @@ ghost use Rattle.std.specs.Prelude.{◌≡◌, ℕ, ◌%◌, ◌/◌, ◌+◌, �
 ghost use Rattle.ow_base.specs.Sv32.{value_of, overwritten, fault_cause};
 ghost use Rattle.ow_base.specs.UserStep.{fault_at, size_of};
 
-use ow_base::{Access, Fault, PageCause, Width, WordSource};
-use phys_memory::Memory;
+use ow_base::{Access, AreaId, Fault, PageCause, Width, WordSource};
+use phys_memory::{DeadWords, Frames, Memory};
 use rv32_user::Space;
 use std::marker::Model;
 use sv32_tables::{Reached, reach};
@@ -90,8 +90,10 @@ fn overwritten(word: u32, k: u32, width: Width, value: u32) -> u32
 }
 
 impl UserMemory {
-    ghost use Rattle.std.specs.Prelude.{IfOk, length};
+    ghost use Rattle.std.specs.Prelude.{◌*◌, List, IfOk, length};
     ghost use Rattle.ow_base.specs.Sv32.{read_at, translated};
+    ghost use Rattle.phys_memory.specs.Halves.{first_own, own_half, with_own, words_beside};
+    ghost use Rattle.phys_memory.specs.Reading.{boot_words, words_read};
     ghost use Rattle.phys_memory.specs.Memory.{frame_count, words_of, with_first, with_word};
 
     /// All of memory.
@@ -108,6 +110,30 @@ impl UserMemory {
         ensures { self.new ≡ record self.old { memory = with_word self.old.memory frame word value } }
     {
         self.memory.store(frame, word, value);
+    }
+
+    /// Puts other frames in the place of the half that is not `live`, and that half in theirs.
+    pub fn exchange(&mut self, live: AreaId, half: &mut Frames)
+        ensures memory { self.new ≡ record self.old { memory = with_own self.old.memory live half.old } }
+        ensures half { half.new ≡ own_half self.old.memory live }
+    {
+        self.memory.exchange(live, half);
+    }
+
+    /// The number of the first frame of the half that is not `live`.
+    pub fn first_own(&self, live: AreaId) -> usize
+        ensures { result ≡ first_own self.now.memory live }
+    {
+        self.memory.first_own(live)
+    }
+
+    /// All words but those of the half that is not `live`, which has so many frames.
+    pub fn beside(&self, live: AreaId, own_frames: usize) -> DeadWords<'_>
+        requires few { own_frames < 2 ^ 54 }
+        ensures words { (own : List ℕ) → length own ≡ 1024 * own_frames → words_read result ≡ words_beside (with_own self.now.memory live own) live }
+        ensures boot { boot_words result ≡ self.now.memory.boot }
+    {
+        self.memory.beside(live, own_frames)
     }
 
     /// Sets the first 40 words of the boot frame, which must be there.

@@ -1,5 +1,5 @@
 -- The half that is lent, and what is read beside it.
-use Rattle.std.proofs.Common.{◌≡◌, ℕ, ◌+◌, ◌-◌, ◌*◌, ◌/◌, ◌<◌, ◌≤◌, ◌⊎◌, true, false, nat_lt, not, ◌&&◌, if◌then◌else◌, List, ◌++◌, length, slice_index, slice_set, Some, None, refl, sym, ap, ◌∙◌, arith, inl, inr, length-append}
+use Rattle.std.proofs.Common.{◌≡◌, ℕ, ◌+◌, ◌-◌, ◌*◌, ◌/◌, ◌%◌, ◌<◌, ◌≤◌, ◌⊎◌, true, false, nat_lt, not, ◌&&◌, if◌then◌else◌, List, ◌++◌, length, slice_index, slice_set, Some, None, refl, sym, ap, ◌∙◌, arith, inl, inr, length-append}
 use Rattle.std.proofs.Math.Path.{fun_ext}
 use Rattle.std.proofs.lemmas.Grind.{common_steps}
 use Rattle.std.proofs.lemmas.Bool.Decides.{nat_tests}
@@ -13,14 +13,14 @@ use Rattle.phys_memory.specs.Reading.{words_read, words_from}
 use Rattle.phys_memory.specs.declared.lent.DeadWords.{DeadWords}
 
 -- the boot frame and a half, which has its first frame's number, are all that is not of the other half
-module _ (m : MemoryParts) (d : DeadWords) (framed : AreWholeFrames m) (same : d.boot.now ≡ m.boot) where
+module _ (m : MemoryParts) (d : DeadWords) (boot : length m.boot % 1024 ≡ 0) (a : length m.a % 1024 ≡ 0) (same : d.boot.now ≡ m.boot) where
   pub beside_b : d.half.now ≡ m.a → d.first ≡ length m.boot / 1024 → words_read d ≡ words_beside m A
   unfolding words_read words_beside words_of
-  beside_b half first = fun_ext (λ f. fun_ext (λ w. grind (arith, nat_tests, common_steps, same, framed.boot, framed.a, half, first)))
+  beside_b half first = fun_ext (λ f. fun_ext (λ w. grind (arith, nat_tests, common_steps, same, boot, a, half, first)))
 
   pub beside_a : d.half.now ≡ m.b → d.first ≡ (length m.boot + length m.a) / 1024 → words_read d ≡ words_beside m B
   unfolding words_read words_beside words_of
-  beside_a half first = fun_ext (λ f. fun_ext (λ w. grind (arith, nat_tests, common_steps, same, framed.boot, framed.a, half, first)))
+  beside_a half first = fun_ext (λ f. fun_ext (λ w. grind (arith, nat_tests, common_steps, same, boot, a, half, first)))
 
 -- where a number of a row of three lists leads
 nth-third : (xs ys zs : List ℕ) (i : ℕ) → length xs + length ys ≤ i → slice_index (xs ++ (ys ++ zs)) i ≡ slice_index zs (i - (length xs + length ys))

@@ -1,5 +1,5 @@
 -- The two halves of memory while one kernel is dead: its half is only read, and the other half is written.
-use Rattle.std.specs.Prelude.{ℕ, ◌+◌, ◌/◌, Bool, nat_lt, not, ◌&&◌, if◌then◌else◌, List, length, None}
+use Rattle.std.specs.Prelude.{ℕ, ◌+◌, ◌-◌, ◌*◌, ◌/◌, Bool, nat_lt, not, ◌&&◌, if◌then◌else◌, List, length, slice_index, Some, None}
 use Rattle.ow_base.specs.Sv32.{WordMap}
 use Rattle.ow_base.specs.declared.machine.AreaId.{AreaId}
 use Rattle.ow_base.specs.declared.machine.AreaId.TheVariants.{A, B}
@@ -22,6 +22,11 @@ first_own m dead = words_before m dead / 1024
 -- whether a frame is among those that lie one behind the other from a first one on
 abbrev pub is_among : (first : ℕ) → (words : List ℕ) → (frame : ℕ) → Bool
 is_among first words frame = not (nat_lt frame first) && nat_lt frame (first + length words / 1024)
+
+-- the words of such frames
+abbrev pub words_from : (first : ℕ) → (words : List ℕ) → WordMap
+words_from first words frame word =
+    if nat_lt word 1024 && is_among first words frame then Some (slice_index words (1024 * (frame - first) + word)) else None
 
 -- whether a frame is of the half that is not dead
 abbrev pub is_own : MemoryParts → (dead : AreaId) → (frame : ℕ) → Bool

@@ -1,14 +1,9 @@
 -- The words of a half that is lent, and those that are read beside it.
-use Rattle.std.specs.Prelude.{ℕ, ◌+◌, ◌-◌, ◌*◌, nat_lt, ◌&&◌, if◌then◌else◌, List, slice_index, Option, Some, None}
+use Rattle.std.specs.Prelude.{ℕ, List, Option, Some, None}
 use Rattle.ow_base.specs.Sv32.{WordMap}
-use Rattle.phys_memory.specs.Halves.{is_among}
+pub use Rattle.phys_memory.specs.Halves.{words_from}
 use Rattle.phys_memory.specs.declared.lent.DeadWords.{DeadWords}
 use Rattle.phys_memory.specs.declared.lent.OwnWords.{OwnWords}
-
--- the words of frames that lie one behind the other, the first of which has this number
-abbrev pub words_from : (first : ℕ) → (words : List ℕ) → WordMap
-words_from first words frame word =
-    if nat_lt word 1024 && is_among first words frame then Some (slice_index words (1024 * (frame - first) + word)) else None
 
 abbrev pub or_else : Option ℕ → Option ℕ → Option ℕ
 or_else (Some word) other = Some word
@@ -21,3 +16,7 @@ words_read d frame word = or_else (words_from 0 d.boot.now frame word) (words_fr
 -- the words of the half that is written
 abbrev pub words_lent : OwnWords → WordMap
 words_lent own = words_from own.first own.words.now
+
+-- the words of the boot frame alone
+abbrev pub boot_words : DeadWords → List ℕ
+boot_words d = d.boot.now

@@ -1,5 +1,6 @@
 //! Frames of words.
-ghost use Rattle.std.specs.Prelude.{◌≡◌, ℕ, ◌+◌, ◌*◌, ◌^◌, ◌<◌, ◌≤◌, [], ◌++◌, drop, IfOk, length, slice_index, slice_set};
+ghost use Rattle.std.specs.Prelude.{◌≡◌, ℕ, ◌+◌, ◌-◌, ◌*◌, ◌^◌, ◌<◌, ◌≤◌, true, [], ◌++◌, drop, IfOk, length, slice_index, slice_set};
+ghost use Rattle.phys_memory.specs.Halves.{is_among, words_from};
 ghost use Rattle.phys_memory.specs.Memory.{blank_frames};
 
 use ow_base::FRAME_WORDS;
@@ -27,7 +28,7 @@ impl Model for Frames {
 
 impl Frames {
     /// No frame; it takes no memory.
-    pub(crate) fn none(alloc: Global) -> Frames
+    pub fn none(alloc: Global) -> Frames
         ensures { result ≡ [] }
     {
         Frames {
@@ -60,6 +61,37 @@ impl Frames {
         ensures { result ≡ slice_index self.now (1024 * frame + word) }
     {
         self.words[FRAME_LENGTH * frame + word as usize]
+    }
+
+    /// Whether a frame is among these, the first of which has the number `first`.
+    pub fn has(&self, first: usize, frame: u32) -> bool
+        ensures { result ≡ is_among first self.now frame }
+    {
+        let frame = frame as usize;
+        frame >= first && frame - first < self.count()
+    }
+
+    /// The word of a frame at a place below 1,024, where the first of these has the number `first`. `None` comes exactly
+    /// where the frame is not among them.
+    pub fn load(&self, first: usize, frame: u32, word: u32) -> Option<u32>
+        requires { word < 1024 }
+        ensures { result ≡ words_from first self.now frame word }
+    {
+        if self.has(first, frame) {
+            Some(self.word(frame as usize - first, word))
+        } else {
+            None
+        }
+    }
+
+    /// Writes the word of a frame among these, the first of which has the number `first`, at a place below 1,024. No other
+    /// word changes.
+    pub fn store(&mut self, first: usize, frame: u32, word: u32, value: u32)
+        requires word { word < 1024 }
+        requires frame { is_among first self.old frame ≡ true }
+        ensures { self.new ≡ slice_set self.old (1024 * (frame - first) + word) value }
+    {
+        self.set_word(frame as usize - first, word, value);
     }
 
     /// The words, frame by frame.

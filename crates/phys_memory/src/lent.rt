@@ -1,7 +1,7 @@
 //! The two halves of memory while one of them is lent for writing.
 ghost use Rattle.std.specs.Prelude.{◌≡◌, ℕ, ◌+◌, ◌-◌, ◌*◌, ◌<◌, ◌==◌, if◌then◌else◌, true, is_some, length, slice_index, slice_set};
 ghost use Rattle.phys_memory.specs.Halves.{is_among};
-ghost use Rattle.phys_memory.specs.Reading.{words_lent, words_read};
+ghost use Rattle.phys_memory.specs.Reading.{boot_words, words_lent, words_read};
 
 use crate::frames::Frames;
 use ow_base::WordSource;
@@ -24,6 +24,13 @@ impl<'a> DeadWords<'a> {
         ensures first { result.first ≡ first }
     {
         DeadWords { boot, half, first }
+    }
+
+    /// The words of the boot frame.
+    pub fn boot(&self) -> &[u32]
+        ensures { result.now ≡ boot_words self.now }
+    {
+        self.boot.words()
     }
 }
 

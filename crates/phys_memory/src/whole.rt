@@ -1,17 +1,18 @@
 //! Memory as a whole.
-ghost use Rattle.std.specs.Prelude.{◌≡◌, ℕ, ◌<◌, ◌≤◌, ◌==◌, if◌then◌else◌, true, false, [], length, IfOk};
+ghost use Rattle.std.specs.Prelude.{◌≡◌, ℕ, ◌*◌, ◌^◌, ◌<◌, ◌≤◌, ◌==◌, if◌then◌else◌, true, false, List, [], length, IfOk};
 ghost use Rattle.std.specs.Borrow.{sem};
 ghost use Rattle.std.specs.Vec.{vec_capacity};
 ghost use Rattle.phys_memory.specs.Memory.{AreWholeFrames, frame_count, whole, words_of, with_first, with_word, zeroed};
 ghost use Rattle.phys_memory.specs.Halves.{first_own, is_own, own_half, with_own, words_beside};
 ghost use Rattle.phys_memory.specs.Lending.{LendsOwn};
-ghost use Rattle.phys_memory.specs.Reading.{words_read};
+ghost use Rattle.phys_memory.specs.Reading.{boot_words, words_read};
 
 use crate::frames::Frames;
 use crate::lent::{DeadWords, OwnWords};
 use ow_base::{AreaId, WordSource};
 use std::alloc::{AllocError, Global};
 use std::marker::Model;
+use std::mem;
 
 /// The frames of a half before its user frames: 64 of the area and 64 of the cache.
 const KERNEL_FRAMES: usize = 128;
@@ -140,6 +141,70 @@ impl Memory {
         own.copy_frame(&rest, from, to);
     }
 
+    /// Puts other frames in the place of the half that is not `dead`, and that half in theirs. It copies no word.
+    pub fn exchange(&mut self, dead: AreaId, half: &mut Frames)
+        ensures memory { self.new ≡ with_own self.old dead half.old }
+        ensures half { half.new ≡ own_half self.old dead }
+    {
+        match dead {
+            AreaId::A => mem::swap(&mut self.b, half),
+            AreaId::B => mem::swap(&mut self.a, half),
+        }
+    }
+
+    /// The word of a frame at a place below 1,024, where the half that is not `dead` is `own`. `None` comes exactly where
+    /// there is no such frame.
+    pub fn load_with(&self, dead: AreaId, own: &Frames, frame: u32, word: u32) -> Option<u32>
+        requires { word < 1024 }
+        ensures { result ≡ words_of (with_own self.now dead own.now) frame word }
+    {
+        match dead {
+            AreaId::A => load_in(&self.boot, &self.a, own, frame, word),
+            AreaId::B => load_in(&self.boot, own, &self.b, frame, word),
+        }
+    }
+
+    /// The number of the first frame of the half that is not `dead`.
+    pub fn first_own(&self, dead: AreaId) -> usize
+        ensures { result ≡ first_own self.now dead }
+    {
+        match dead {
+            AreaId::A => self.boot.count() + self.a.count(),
+            AreaId::B => self.boot.count(),
+        }
+    }
+
+    /// All words but those of the half that is not `dead`, which has so many frames.
+    pub fn beside(&self, dead: AreaId, own_frames: usize) -> DeadWords<'_>
+        requires few { own_frames < 2 ^ 54 }
+        ensures words { (own : List ℕ) → length own ≡ 1024 * own_frames → words_read result ≡ words_beside (with_own self.now dead own) dead }
+        ensures boot { boot_words result ≡ self.now.boot }
+    {
+        match dead {
+            AreaId::A => self.beside_b(),
+            AreaId::B => self.beside_a(own_frames),
+        }
+    }
+
+    /// The boot frame and half A.
+    fn beside_b(&self) -> DeadWords<'_>
+        ensures words { (own : List ℕ) → words_read result ≡ words_beside (with_own self.now AreaId.A own) AreaId.A }
+        ensures boot { boot_words result ≡ self.now.boot }
+    {
+        // Half A is whole frames, so that half B begins with one.
+        let _ = self.a.count();
+        DeadWords::new(&self.boot, &self.a, self.boot.count())
+    }
+
+    /// The boot frame and half B, where so many frames lie between them.
+    fn beside_a(&self, own_frames: usize) -> DeadWords<'_>
+        requires few { own_frames < 2 ^ 54 }
+        ensures words { (own : List ℕ) → length own ≡ 1024 * own_frames → words_read result ≡ words_beside (with_own self.now AreaId.B own) AreaId.B }
+        ensures boot { boot_words result ≡ self.now.boot }
+    {
+        DeadWords::new(&self.boot, &self.b, self.boot.count() + own_frames)
+    }
+
     /// Lends half B for writing, and the rest for reading.
     fn lend_b(&mut self) -> (DeadWords<'_>, OwnWords<'_>)
         ensures* lends { sem 𝓛 (LendsOwn self.entry AreaId.A result.1) }
@@ -182,23 +247,31 @@ impl Memory {
 impl WordSource for Memory {
     ghost words = { words_of };
 
-    #[tactic(auto, unfolding(crate::specs::Memory::words_of))]
     fn load(&self, frame: u32, word: u32) -> Option<u32> {
-        let frame = frame as usize;
-        let boot = self.boot.count();
-        if frame < boot {
-            return Some(self.boot.word(frame, word));
-        }
-        let frame = frame - boot;
-        let a = self.a.count();
-        if frame < a {
-            return Some(self.a.word(frame, word));
-        }
-        let frame = frame - a;
-        if frame < self.b.count() {
-            Some(self.b.word(frame, word))
-        } else {
-            None
-        }
+        load_in(&self.boot, &self.a, &self.b, frame, word)
+    }
+}
+
+/// The word of a frame at a place below 1,024, in memory of these frames.
+#[tactic(auto, unfolding(crate::specs::Memory::words_of))]
+fn load_in(boot: &Frames, a: &Frames, b: &Frames, frame: u32, word: u32) -> Option<u32>
+    requires { word < 1024 }
+    ensures { result ≡ words_of (record { boot = boot.now; a = a.now; b = b.now }) frame word }
+{
+    let frame = frame as usize;
+    let boot_count = boot.count();
+    if frame < boot_count {
+        return Some(boot.word(frame, word));
+    }
+    let frame = frame - boot_count;
+    let a_count = a.count();
+    if frame < a_count {
+        return Some(a.word(frame, word));
+    }
+    let frame = frame - a_count;
+    if frame < b.count() {
+        Some(b.word(frame, word))
+    } else {
+        None
     }
 }

@@ -16,7 +16,7 @@ returns c =
       (refl, λ w. ap (λ (n : MemoryParts). record n { b = w }) c.self.view_is),
       record {
         lends = tt;
-        dead_words = beside_b m c.new.result framed (c.new.ensures.boot ∙ ap (λ (n : MemoryParts). n.boot) c.self.view_is)
+        dead_words = beside_b m c.new.result framed.boot framed.a (c.new.ensures.boot ∙ ap (λ (n : MemoryParts). n.boot) c.self.view_is)
             (c.new.ensures.half ∙ ap (λ (n : MemoryParts). n.a) c.self.view_is) (c.new.ensures.first ∙ before);
         own_words = ap (λ (n : MemoryParts). n.b) c.self.view_is;
         own_frames = behind;

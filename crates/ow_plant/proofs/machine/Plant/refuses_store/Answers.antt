@@ -1,9 +1,0 @@
-use Rattle.std.proofs.Common.{◌≡◌, true, sym, subst, ◌∙◌}
-use Rattle.std.specs.List.{list_any}
-use Rattle.ow_plant.specs.Points.{has_come}
-use Rattle.ow_plant.specs.State.{PlantState}
-use Rattle.ow_plant.proofs.Coming.{come_past}
-use Rattle.ow_plant.proofs.machine.Plant.refuses_store.Goals as goal
-
-pub returns-else-is_some-clause-due : goal.returns-else-is_some-clause-due
-returns-else-is_some-clause-due c = λ is. subst (λ (s : PlantState). list_any (has_come s.traps) s.points ≡ true) c.self.view_is (come_past c.self.inside.counts.traps c.self.inside.counts.stores c.self.inside.points (sym c.is_past.ensures ∙ is))
