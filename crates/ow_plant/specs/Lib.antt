@@ -3,3 +3,4 @@ pub mod Dead
 pub mod Points
 pub mod Past
 pub mod State
+pub mod Images
