@@ -1,10 +1,15 @@
--- The Unix that never panics: its states, what calls, signals and turns make of them, whole runs and the report. No layout
--- is named here.
+-- The Unix: its states, what calls, signals, turns and traps make of them, what a panic leaves of them and what is made of
+-- that, whole runs and the report. No layout is named here.
 pub mod State
 pub mod Choice
 pub mod Calls
 pub mod Signals
 pub mod Turn
 pub mod Traps
+pub mod Broken
+pub mod Wounds
+pub mod Abort
+pub mod Panics
 pub mod Run
 pub mod Report
+pub mod PanicReport

@@ -74,8 +74,12 @@ terminal_text tty tape s = tape_text tty tape ++ screen_text tty s
 abbrev pub shown_on : Terminal → Screen
 shown_on t = screen_of (drop t.base t.tape)
 
+-- the lines of the processes and terminals that a run left, and the last line
+abbrev pub state_text : Unix → List ℕ
+state_text w = process_lines w.exits 1 (w.next_pid - 1)
+    ++ (terminal_text 0 (w.terminals 0).tape (shown_on (w.terminals 0))
+    ++ (terminal_text 1 (w.terminals 1).tape (shown_on (w.terminals 1)) ++ line (codes "end")))
+
 -- Report, of an ending and the state that the run left
 unfoldable pub report_of : Ending → Unix → List ℕ
-report_of ending w = head_text ending w.steps w.traps ++ (process_lines w.exits 1 (w.next_pid - 1)
-    ++ (terminal_text 0 (w.terminals 0).tape (shown_on (w.terminals 0))
-    ++ (terminal_text 1 (w.terminals 1).tape (shown_on (w.terminals 1)) ++ line (codes "end"))))
+report_of ending w = head_text ending w.steps w.traps ++ state_text w
