@@ -28,6 +28,7 @@ pub mod Halves
 pub mod Reading
 pub mod Images
 pub mod SoundImages
+pub mod LeftImages
 pub mod Tests
 pub mod Fitting
 pub mod Values

@@ -1,15 +1,26 @@
 -- Which terminals can be read, and the screen that the records of one show. Its 24 row records are a ring, and its own
 -- record has the place in the ring of the top row of its display.
-use Rattle.std.specs.Prelude.{◌≡◌, ℕ, ◌+◌, ◌*◌, ◌%◌, ◌<◌, ◌≤◌, true, List, [], length, drop, slice_index_or, All, Option, Some, None, is_some}
+use Rattle.std.specs.Prelude.{◌≡◌, ℕ, ◌+◌, ◌*◌, ◌%◌, ◌<◌, ◌≤◌, Bool, true, not, ◌&&◌, List, [], length, drop, slice_index_or, All, Option, Some, None, is_some}
 use Rattle.ow_base.specs.Screen.{Screen, screen_of}
 use Rattle.record_layouts.specs.declared.term.TermRec.{TermRec}
 use Rattle.record_layouts.specs.declared.row.RowRec.{RowRec}
 use Rattle.record_layouts.specs.Held.{Records}
+use Rattle.record_layouts.specs.Unix.Choice.{is_any}
 
 -- the terminal's record and its 24 rows decode
 pub record TerminalDecodes (records : Records) (tty : ℕ) : Type 0 where
   pub terminal : is_some (records.terms tty) ≡ true
   pub rows : (place : ℕ) → place < 24 → is_some (records.rows (24 * tty + place)) ≡ true
+
+-- the same as a test: a row of a terminal does not decode, one of its rows does not, and the terminal does
+abbrev pub is_lost_row : Records → (tty place : ℕ) → Bool
+is_lost_row r tty place = not (is_some (r.rows (24 * tty + place)))
+
+unfoldable pub lacks_row : Records → (tty : ℕ) → Bool
+lacks_row r tty = is_any (is_lost_row r tty) 0 24
+
+unfoldable pub terminal_decodes : Records → (tty : ℕ) → Bool
+terminal_decodes r tty = is_some (r.terms tty) && not (lacks_row r tty)
 
 -- the number of the row record of a display row
 abbrev pub row_number : (tty top r : ℕ) → ℕ
