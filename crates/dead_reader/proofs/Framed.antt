@@ -5,6 +5,7 @@ use Rattle.record_layouts.specs.Held.{Records}
 use Rattle.record_layouts.specs.Least.{IsLeast, NonePasses}
 use Rattle.record_layouts.specs.Left.{has_tables, lacks_frame}
 use Rattle.record_layouts.specs.Pages.{frame_of, have_frames, heap_pages, is_live, is_mapped, page_total, region_of}
+use Rattle.record_layouts.proofs.Frames.{have_all}
 use Rattle.frame_table.proofs.Counting.{IsOfRegions, in_or_out, region_none, region_there, values_end}
 
 module _ (r : Records) (slot : ℕ) (process : ProcRec) where
@@ -13,12 +14,9 @@ module _ (r : Records) (slot : ℕ) (process : ProcRec) where
   is_bare page = not (is_some (frame_of r slot process page))
 
   all_framed : (first count end : ℕ) → end ≡ first + count → NonePasses is_bare first end → have_frames r slot process first count ≡ true
-  unfolding have_frames
-  all_framed first zero end sum none = refl
-  all_framed first (suc count) end sum none =
-      let bare : not (is_some (frame_of r slot process first)) ≡ false = none.none first (omega arith) (omega arith) in
-      let here : is_some (frame_of r slot process first) ≡ true = grind (arith, bare) in
-      rw here (all_framed (first + 1) count end (omega arith) (record { none = λ k from to. none.none k (omega arith) to }))
+  all_framed first count end sum none = have_all r slot process first count end sum (λ page from to.
+      let bare : not (is_some (frame_of r slot process page)) ≡ false = none.none page from to in
+      grind (arith, bare))
 
   -- a process is mapped where its tables are found and no page of its regions is without a frame
   pub mapped_by : has_tables r slot ≡ true → NonePasses is_bare 16 (values_end process) → NonePasses is_bare 0x7fffc 0x80000

@@ -1,22 +1,13 @@
 -- What a process lost, by its descriptors and its signals.
-use Rattle.std.specs.Prelude.{ℕ, ◌+◌, ◌-◌, ◌/◌, ◌^◌, Bool, true, false, not, ◌==◌, ◌&&◌, if◌then◌else◌, List, slice_index, Option, Some, None, is_some}
+use Rattle.std.specs.Prelude.{ℕ, ◌+◌, ◌-◌, Bool, true, false, not, ◌==◌, ◌&&◌, if◌then◌else◌, List, slice_index, Option, Some, None, is_some}
 use Rattle.record_layouts.specs.declared.desc.DescRec.{DescRec}
 use Rattle.record_layouts.specs.Unix.Choice.{is_any}
 use Rattle.record_layouts.specs.Held.{Records}
+pub use Rattle.record_layouts.specs.Left.{is_lost_entry, names_file}
+unfoldable pub use Rattle.record_layouts.specs.Left.{may_lack_page}
 use Rattle.dead_reader.specs.Terminals.{terminal_decodes}
 use Rattle.dead_reader.specs.declared.losses.Loss.{Loss}
 use Rattle.dead_reader.specs.declared.losses.Loss.TheVariants as loss
-
--- the word that names the owner of a cache entry names this file
-abbrev pub names_file : (file word : ℕ) → Bool
-names_file file word = word / 2 ^ 20 == file + 1
-
--- an entry of the cache does not decode, and its owner is of this file; so a page of the file may be lost
-abbrev pub is_lost_entry : Records → (file entry : ℕ) → Bool
-is_lost_entry r file entry = not (is_some (r.caches entry)) && names_file file (r.cache_owners entry)
-
-unfoldable pub may_lack_page : Records → (file : ℕ) → Bool
-may_lack_page r file = is_any (is_lost_entry r file) 0 64
 
 -- What a descriptor lost, by its description. It is closed where its description does not decode, and then nothing else is
 -- asked of it, or where that is on a file whose record does not decode. A page may be lost of its file; its terminal is

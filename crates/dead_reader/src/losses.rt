@@ -53,7 +53,7 @@ fn names_file(file: u32, word: u32) -> bool
 }
 
 // A page of the file may be lost: an entry of the cache cannot be read, and its owner is of this file.
-#[tactic(auto, unfolding(crate::specs::Losses::may_lack_page))]
+#[tactic(auto, unfolding(record_layouts::specs::Left::may_lack_page))]
 fn may_lack_page<V: RecordView>(view: &V, file: u32) -> bool
     requires { file < 32 }
     ensures { result ≡ may_lack_page (V.records view.now) file }

@@ -9,7 +9,7 @@ use record_layouts::RecordView;
 const ROWS: u32 = 24;
 
 // One of a terminal's rows does not decode.
-#[tactic(auto, unfolding(crate::specs::Terminals::lacks_row))]
+#[tactic(auto, unfolding(record_layouts::specs::Terminals::lacks_row))]
 fn lacks_row<V: RecordView>(view: &V, tty: u32) -> bool
     requires { tty < 2 }
     ensures { result ≡ lacks_row (V.records view.now) tty }
@@ -23,7 +23,7 @@ fn lacks_row<V: RecordView>(view: &V, tty: u32) -> bool
 }
 
 /// A terminal's record and its rows decode.
-#[tactic(auto, unfolding(crate::specs::Terminals::terminal_decodes))]
+#[tactic(auto, unfolding(record_layouts::specs::Terminals::terminal_decodes))]
 pub(crate) fn terminal_decodes<V: RecordView>(view: &V, tty: u32) -> bool
     requires { tty < 2 }
     ensures same { result ≡ terminal_decodes (V.records view.now) tty }

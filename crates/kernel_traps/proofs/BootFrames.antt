@@ -14,6 +14,7 @@ use Rattle.ow_base.specs.declared.worlds.Program.{Program}
 use Rattle.record_layouts.specs.Held.{Records}
 use Rattle.record_layouts.specs.Pages.{byte_on, claim_of, entry_for, frame_by, frame_of, have_frames, is_linked, is_mapped, leaf_frame, owned, pages_of, region_of}
 use Rattle.record_layouts.specs.Sound.{is_table_place}
+use Rattle.record_layouts.proofs.Frames.{have_all}
 use Rattle.record_layouts.specs.Unix.State.{is_within, started_byte, started_pages, started_rights}
 use Rattle.kernel_traps.specs.Boot.{IsLoadable}
 use Rattle.kernel_traps.specs.BootRecords.{started_record}
@@ -29,17 +30,6 @@ leaf_read frame Values =
     let flags : (leaf_word frame Values % 1024 == leaf_flags Values) ≡ true = grind (arith, nat_tests) in
     let number : leaf_word frame Values / 1024 ≡ frame = omega arith in
     rw (flags, number) refl
-
--- each of so many pages has a frame where one by one they do
-have_all : (r : Records) (slot first count : ℕ) (process : _) → ((number : ℕ) → number < count → is_some (frame_of r slot process (first + number)) ≡ true)
-    → have_frames r slot process first count ≡ true
-unfolding have_frames
-have_all r slot first zero process each = refl
-have_all r slot first (suc count) process each =
-    let here : is_some (frame_of r slot process first) ≡ true =
-    subst (λ (page : ℕ). is_some (frame_of r slot process page) ≡ true) (omega arith) (each 0 (omega arith)) in
-    rw here (have_all r slot (first + 1) count process (λ number few.
-    subst (λ (page : ℕ). is_some (frame_of r slot process page) ≡ true) (omega arith) (each (number + 1) (omega arith))))
 
 -- behind the last word there is no byte, and 0 has none
 byte_past : (words : List ℕ) (j : ℕ) → length words ≤ j / 4 → byte_of_words words j ≡ 0
@@ -167,10 +157,11 @@ module _ (slot : ℕ) (program : Program) (loadable : IsLoadable program) where
     is_mapped_there =
         let no_heap : page_count program.code + (page_count program.values + 0) ≡ page_count program.code + page_count program.values = omega arith in
         let low : have_frames r slot (started_record slot program) 16 (page_count program.code + page_count program.values) ≡ true =
-        have_all r slot 16 (page_count program.code + page_count program.values) (started_record slot program)
-        (λ number few. ap (λ o. is_some o) (frame_low number few)) in
+        have_all r slot (started_record slot program) 16 (page_count program.code + page_count program.values) _ refl (λ page from to.
+        subst (λ (page : ℕ). is_some (frame_of r slot (started_record slot program) page) ≡ true) (omega arith) (ap (λ o. is_some o) (frame_low (page - 16) (omega arith)))) in
         let high : have_frames r slot (started_record slot program) 0x7fffc 4 ≡ true =
-        have_all r slot 0x7fffc 4 (started_record slot program) (λ number few. ap (λ o. is_some o) (frame_high number few)) in
+        have_all r slot (started_record slot program) 0x7fffc 4 0x80000 refl (λ page from to.
+        subst (λ (page : ℕ). is_some (frame_of r slot (started_record slot program) page) ≡ true) (omega arith) (ap (λ o. is_some o) (frame_high (page - 0x7fffc) (omega arith)))) in
         rw (linked_low, linked_high, no_heap, low, high) refl
 
     -- and no other word of the tables is used

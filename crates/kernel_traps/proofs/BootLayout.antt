@@ -10,8 +10,10 @@ use Rattle.ow_base.specs.World.{pages_of_found, started_page_count}
 use Rattle.ow_base.specs.declared.worlds.Load.{Load}
 use Rattle.ow_base.specs.declared.worlds.Program.{Program}
 use Rattle.ow_base.specs.declared.worlds.Start.{Start as Started}
+use Rattle.record_layouts.specs.Least.{IsLeast, NonePasses}
+use Rattle.record_layouts.proofs.Least.{least_found, least_none}
 use Rattle.kernel_traps.specs.Boot.{IsBootable, IsLoadable, IsStartable, program_in}
-use Rattle.kernel_traps.specs.BootLayout.{holder_below, page_in}
+use Rattle.kernel_traps.specs.BootLayout.{ends_behind, holder_of, page_in}
 use Rattle.kernel_traps.specs.Boot.{pages_before}
 
 -- the program of a start is there
@@ -79,32 +81,27 @@ pub pages_none : (load : Load) → pages_before load 0 ≡ 0
 pages_none load = refl
 
 -- a page is held by the frame that is counted for it
-pub holder_found : (load : Load) → IsBootable load → (count slot frame number : ℕ) (program : Program) → count ≤ length load.starts → slot < count
-    → program_in load slot ≡ Some program → number < started_page_count program → frame ≡ pages_before load slot + number
-    → holder_below load count frame ≡ Some (record { slot = slot; page = page_in program number })
-unfolding holder_below
-holder_found load bootable zero slot frame number program within less found low is = absurd (omega arith)
-holder_found load bootable (suc last) slot frame number program within less found low is =
-    let more = rw add-one at (pages_more load slot program (omega arith) found) in
-    elim (cases_eq slot last) [
-      | inl same ↦
-          let place : frame - pages_before load last ≡ number = rw (← same) (omega arith) in
-          let here : (not (nat_lt frame (pages_before load last)) && nat_lt frame (pages_before load (suc last))) ≡ true =
-          rw (← same) (grind (arith, nat_tests, more)) in
-          let found_last : program_in load last ≡ Some program = rw (← same) found in
-          rw (here, place, found_last, same) refl
-      | inr other ↦
-          let rise = pages_rise load (suc slot) last (omega arith) in
-          let out : (not (nat_lt frame (pages_before load last)) && nat_lt frame (pages_before load (suc last))) ≡ false =
-          grind (arith, nat_tests, more, rise) in
-          rw out (holder_found load bootable last slot frame number program (omega arith) (omega arith) found low is)
-    ]
+pub holder_found : (load : Load) (slot frame number : ℕ) (program : Program) → slot < length load.starts → program_in load slot ≡ Some program
+    → number < started_page_count program → frame ≡ pages_before load slot + number
+    → holder_of load frame ≡ Some (record { slot = slot; page = page_in program number })
+unfolding holder_of
+holder_found load slot frame number program within found low is =
+    let more = pages_more load slot program within found in
+    let ends : nat_lt frame (pages_before load (slot + 1)) ≡ true = grind (arith, nat_tests, more) in
+    let least : IsLeast (ends_behind load frame) 0 (length load.starts) slot = record {
+      from = omega arith;
+      to = within;
+      passes = ends;
+      below = record { none = λ k from to. let rise = pages_rise load (k + 1) slot (omega arith) in grind (arith, nat_tests, rise) };
+    } in
+    let place : frame - pages_before load slot ≡ number = omega arith in
+    rw (least_found (ends_behind load frame) 0 (length load.starts) (length load.starts) slot (omega arith) least, place, found) refl
 
 -- and frames behind the last page hold none
-pub holder_missed : (load : Load) (count frame : ℕ) → pages_before load count ≤ frame → holder_below load count frame ≡ None
-unfolding holder_below
-holder_missed load zero frame past = refl
-holder_missed load (suc last) frame past =
-    let rise = pages_rise load last (suc last) (omega arith) in
-    let out : (not (nat_lt frame (pages_before load last)) && nat_lt frame (pages_before load (suc last))) ≡ false = grind (arith, nat_tests, past) in
-    rw out (holder_missed load last frame (omega (arith, rise, past)))
+pub holder_missed : (load : Load) (frame : ℕ) → pages_before load (length load.starts) ≤ frame → holder_of load frame ≡ None
+unfolding holder_of
+holder_missed load frame past =
+    let none : NonePasses (ends_behind load frame) 0 (length load.starts) = record {
+      none = λ k from to. let rise = pages_rise load (k + 1) (length load.starts) (omega arith) in grind (arith, nat_tests, rise);
+    } in
+    rw (least_none (ends_behind load frame) 0 (length load.starts) (length load.starts) (omega arith) none) refl

@@ -13,12 +13,11 @@ use Rattle.record_layouts.specs.declared.sig.SigRec.{SigRec}
 use Rattle.record_layouts.specs.Decode.{next_by, slot_by}
 use Rattle.record_layouts.specs.Held.{Records}
 use Rattle.record_layouts.specs.Pages.{is_live}
-use Rattle.record_layouts.specs.Sound.{AreInCalls, AreNumbered, AreOnTerminals, IsIn, is_used}
+use Rattle.record_layouts.specs.Sound.{AreInCalls, AreInWrites, AreNumbered, AreOnTerminals, IsIn, is_used}
 use Rattle.record_layouts.specs.Spelling.{lies_between}
 use Rattle.kernel_traps.specs.Boot.{IsBootable, program_in}
 use Rattle.kernel_traps.specs.BootRecords.{booted_description, booted_exit, booted_process, booted_signals, description_for, free_process, started_descs, started_record}
 use Rattle.kernel_traps.specs.BootState.{IsBooted}
-use Rattle.kernel_traps.specs.Plants.{AreInWrites}
 use Rattle.kernel_traps.proofs.BootLayout.{start_there}
 
 -- a slot has the process of its program, and none is behind the starts

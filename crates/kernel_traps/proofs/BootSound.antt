@@ -16,10 +16,11 @@ use Rattle.ow_plant.specs.State.{PlantState, silent_device, tty_of, Device}
 use Rattle.intent_store.specs.Live.{map_of, records_held, rest_of}
 use Rattle.intent_store.proofs.Holding.{shut_gate}
 use Rattle.tty_screen.proofs.ShownScreens.{blank_shows}
+use Rattle.ow_plant.specs.Images.{tapes_of}
 use Rattle.kernel_traps.specs.Boot.{IsBootable, pages_before}
 use Rattle.kernel_traps.specs.BootRecords.{silent_record}
 use Rattle.kernel_traps.specs.BootState.{IsBooted}
-use Rattle.kernel_traps.specs.Plants.{AreTerminalsSound, IsHeldSound, IsOfDevice, IsSound, tapes_of, unix_at}
+use Rattle.kernel_traps.specs.Plants.{AreTerminalsSound, IsHeldSound, IsOfDevice, IsSound, unix_at}
 use Rattle.kernel_traps.specs.Turning.{IsSameMachine}
 use Rattle.kernel_traps.proofs.BootFrames.{clean_there, is_mapped_there}
 use Rattle.kernel_traps.proofs.BootHeld.{IsMade, booted, last, of_shape, words_booted}
@@ -69,7 +70,7 @@ module _ (r : Records) (load : Load) (is : IsBootable load) (b : IsBooted r load
 silent_sound : (r : Records) (tty room : ℕ) (device : Device) → device ≡ silent_device room → ShowsScreen r tty blank_screen
     → IsOfDevice r tty device (silent_record tty)
 unfolding screen_of
-silent_sound r tty room device silent shown = rw silent (record { counted = refl; base = omega arith; rows = shown; display = refl })
+silent_sound r tty room device silent shown = rw silent (record { tape = record { counted = refl; base = omega arith; rows = shown }; display = refl })
 
 silent_bytes : (device : Device) (steps room : ℕ) → device ≡ silent_device room → length device.tape ≤ 16 * steps
 silent_bytes device steps room silent = rw silent (omega arith)

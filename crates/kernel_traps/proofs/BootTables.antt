@@ -14,7 +14,7 @@ use Rattle.record_layouts.specs.Pages.{claim_of}
 use Rattle.record_layouts.specs.Reading.{records_in}
 use Rattle.record_layouts.specs.Unix.State.{is_within}
 use Rattle.kernel_traps.specs.Boot.{IsBootable, IsLoadable, pages_before, program_in}
-use Rattle.kernel_traps.specs.BootLayout.{boot_map, booted_plan, holder_below, low_pages, number_in, page_in, placed_by, placed_in, word_at, word_by, word_in}
+use Rattle.kernel_traps.specs.BootLayout.{boot_map, booted_plan, holder_of, low_pages, number_in, page_in, placed_by, placed_in, word_at, word_by, word_in}
 use Rattle.kernel_builder.specs.Plan.{claim_by, entry_word, owner_word, page_entry}
 use Rattle.kernel_builder.specs.Sets.{IsBuilt, IsFilled}
 use Rattle.kernel_traps.specs.BootTables.{HasTables, HasWords, low_rights}
@@ -102,7 +102,7 @@ module _ (load : Load) (is : IsBootable load) (old new : Area) (blank : (number 
       let out : (nat_lt slot 16 && nat_lt table 3 && nat_lt word 1024) ≡ false = grind (arith, nat_tests) in rw out refl
 
   owner_is : (frame : ℕ) → frame < load.shape.user_frames
-      → (records_in (boot_map load) true new).owners frame ≡ claim_by (holder_below load (length load.starts) frame)
+      → (records_in (boot_map load) true new).owners frame ≡ claim_by (holder_of load frame)
   unfolding records_in owner_word
   owner_is frame less =
       rw (lt-ltb frame load.shape.user_frames less)
@@ -111,7 +111,7 @@ module _ (load : Load) (is : IsBootable load) (old new : Area) (blank : (number 
   pub owner_none : (frame : ℕ) → pages_before load (length load.starts) ≤ frame → (records_in (boot_map load) true new).owners frame ≡ 0
   unfolding records_in
   owner_none frame past = elim (cases_lt frame load.shape.user_frames) [
-    | inl less ↦ owner_is frame less ∙ ap claim_by (holder_missed load (length load.starts) frame past)
+    | inl less ↦ owner_is frame less ∙ ap claim_by (holder_missed load frame past)
     | inr behind ↦ rw (le-ltb frame load.shape.user_frames behind) refl
   ]
 
@@ -135,9 +135,9 @@ module _ (load : Load) (is : IsBootable load) (old new : Area) (blank : (number 
         omega (arith, less, pages_more load slot program low found, pages_fit load (slot + 1) is)
 
     held : (number : ℕ) → number < started_page_count program
-        → holder_below load (length load.starts) (pages_before load slot + number) ≡ Some (record { slot = slot; page = page_in program number })
+        → holder_of load (pages_before load slot + number) ≡ Some (record { slot = slot; page = page_in program number })
     held number less =
-        holder_found load is (length load.starts) slot (pages_before load slot + number) number program (omega arith) low found less refl
+        holder_found load slot (pages_before load slot + number) number program low found less refl
 
     owner_there : (number page : ℕ) → number < started_page_count program → page_in program number ≡ page
         → r.owners (pages_before load slot + number) ≡ claim_of slot page
@@ -238,7 +238,7 @@ module _ (load : Load) (is : IsBootable load) (old new : WordMap) (built : IsBui
       let loadable = start_loadable load slot program is low found in
       let room : pages_before load slot + number < load.shape.user_frames =
       omega (arith, less, pages_more load slot program low found, pages_fit load (slot + 1) is) in
-      let held = holder_found load is (length load.starts) slot (pages_before load slot + number) number program (omega arith) low found less refl in
+      let held = holder_found load slot (pages_before load slot + number) number program low found less refl in
       built.pages (pages_before load slot + number) word (record { slot = slot; page = page_in program number }) room small held
       ∙ ap (λ o. Some (word_by o (page_in program number) word)) found
       ∙ ap (λ o. Some (word_at program o word)) (number_back program loadable number less)

@@ -10,14 +10,14 @@ use Rattle.record_layouts.specs.declared.intent.Gate.TheVariants.{Closed}
 use Rattle.record_layouts.specs.declared.patch.PatchItem.{PatchItem}
 use Rattle.record_layouts.specs.Held.{AreValues, Held, Records, patched, with_items}
 use Rattle.record_layouts.specs.Row.{FitsRow}
-use Rattle.record_layouts.specs.Sound.{AreOnTerminals, AreSound}
+use Rattle.record_layouts.specs.Sound.{AreInWrites, AreOnTerminals, AreSound}
 use Rattle.record_layouts.specs.Term.{FitsTerm}
 use Rattle.record_layouts.specs.Values.{are_values}
 use Rattle.process_table.proofs.Descriptors.{on_terminals_stay}
 use Rattle.syscalls.specs.Planned.{Planned, PlanOnce, PlanWrite}
 use Rattle.ow_plant.specs.State.{PlantState, left_trap, risen, tty_of, Device}
 use Rattle.intent_store.specs.Live.{IsStanding, gate_held, held_of, map_of, records_held, rest_of}
-use Rattle.kernel_traps.specs.Plants.{AreInWrites, AreTerminalsSound, IsInTrap, IsOfDevice, IsSound}
+use Rattle.kernel_traps.specs.Plants.{AreTerminalsSound, IsInTrap, IsOfDevice, IsSound}
 use Rattle.kernel_traps.specs.Putting.{AreDrawn, IsPut, with_puts}
 use Rattle.kernel_traps.specs.Carrying.{HasRoomFor, IsCarriedOut, bytes_of}
 use Rattle.kernel_traps.specs.Ending.{EndsTrap, HasStep}

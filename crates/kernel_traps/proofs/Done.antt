@@ -13,7 +13,7 @@ use Rattle.syscalls.specs.Done.{AreCounted as IsTold, AreCountedBy, AreWritten, 
 use Rattle.syscalls.specs.Planned.{PlanWrite, pages_if}
 use Rattle.ow_plant.specs.State.{PlantState, risen}
 use Rattle.intent_store.specs.Live.{held_of, records_held, rest_of}
-use Rattle.kernel_traps.specs.Plants.{tapes_of}
+use Rattle.ow_plant.specs.Images.{tapes_of}
 use Rattle.kernel_traps.specs.Putting.{AreCounted, CountsBytes, counted_after, with_puts}
 use Rattle.kernel_traps.specs.Carrying.{IsCarriedOut, bytes_of}
 

@@ -19,7 +19,7 @@ use Rattle.record_layouts.specs.Pages.{pages_of}
 use Rattle.record_layouts.specs.Spelling.{IsStatus}
 use Rattle.record_layouts.specs.Head.{FitsHead}
 use Rattle.record_layouts.specs.Decode.{next_by}
-use Rattle.record_layouts.specs.Sound.{IsIn, AreNumbered, AreSound}
+use Rattle.record_layouts.specs.Sound.{AreInWrites, AreNumbered, AreSound, IsIn}
 use Rattle.process_table.specs.Choosing.{next_signal}
 use Rattle.process_table.specs.Meaning.{KeepDescriptors}
 use Rattle.process_table.specs.Patches.{bank_of, ended_exit, ended_items, ended_process, handler_of, head_item, in_handler, interrupted, process_item, saved_items, saved_process, signal_items, signalled_process, without_signal}
@@ -34,7 +34,6 @@ use Rattle.syscalls.specs.Done.{KeepsSound}
 use Rattle.syscalls.specs.Planned.{Planned, PlanOnce, caller_with, items_in, items_of, planned_call, planned_number, planned_of_call, planned_piece}
 use Rattle.syscalls.proofs.KeptSound.{call_keeps, piece_keeps}
 use Rattle.syscalls.proofs.Planning.{IsServedAs, call_keeps_descriptors, number_items, piece_items, piece_keeps_descriptors}
-use Rattle.kernel_traps.specs.Plants.{AreInWrites}
 use Rattle.kernel_traps.specs.Carrying.{AreOfProcesses, is_of_process}
 use Rattle.kernel_traps.specs.Ending.{EndsTrap}
 use Rattle.kernel_traps.specs.Traps.{served_items}

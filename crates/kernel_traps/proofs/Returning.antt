@@ -15,7 +15,8 @@ use Rattle.phys_memory.specs.Memory.{words_of}
 use Rattle.ow_plant.specs.State.{PlantState, returned_to}
 use Rattle.ow_plant.proofs.Armed.{IsArmed-returned_to}
 use Rattle.intent_store.specs.Live.{records_held}
-use Rattle.kernel_traps.specs.Plants.{IsSound, context_of, tapes_of, unix_at}
+use Rattle.ow_plant.specs.Images.{tapes_of}
+use Rattle.kernel_traps.specs.Plants.{IsSound, context_of, unix_at}
 use Rattle.kernel_traps.specs.User.{IsOutside, IsReturned, at_process}
 use Rattle.kernel_traps.proofs.OfMemory.{of_memory}
 use Rattle.kernel_traps.proofs.UnixBy.{unix_by, unix_is}

@@ -9,10 +9,9 @@ use Rattle.record_layouts.specs.declared.row.RowRec.{RowRec}
 use Rattle.record_layouts.specs.Held.{AreComplete, AreValues, Records}
 use Rattle.record_layouts.specs.Row.{FitsRow}
 use Rattle.record_layouts.specs.Term.{FitsTerm}
-use Rattle.record_layouts.specs.Sound.{AreInCalls, AreMapped, AreNumbered, AreOnTerminals, AreSound, IsIn, IsInCall, IsTransfer}
+use Rattle.record_layouts.specs.Sound.{AreInCalls, AreInWrites, AreMapped, AreNumbered, AreOnTerminals, AreSound, IsIn, IsInCall, IsTransfer}
 use Rattle.syscalls.proofs.Altered.{mapped_stays}
 use Rattle.tty_screen.specs.Drawing.{IsRowOf}
-use Rattle.kernel_traps.specs.Plants.{AreInWrites}
 use Rattle.kernel_traps.specs.Putting.{AreDrawn}
 use Rattle.kernel_traps.proofs.OfProcesses.{shown_by}
 

@@ -26,9 +26,7 @@ pub of_device-same : (old new : Records) (tty : ℕ) (device : Device) → new.t
 of_device-same old new tty device terminal rows is =
     subst (λ (held : Option TermRec). IfSome held (IsOfDevice new tty device)) (sym terminal)
     (if_some (old.terms tty) (IsOfDevice old tty device) (IsOfDevice new tty device) (λ rec it. record {
-      counted = it.counted;
-      base = it.base;
-      rows = shows_same terminal rows it.rows;
+      tape = record { counted = it.tape.counted; base = it.tape.base; rows = shows_same terminal rows it.tape.rows };
       display = it.display;
     }) is)
 
@@ -47,11 +45,13 @@ of_device-put : (old new : Records) (tty : ℕ) (bytes : List ℕ) (device : Dev
 of_device-put old new tty bytes device before after shows few counts is =
     let more : length (device.tape ++ bytes) ≡ length device.tape + length bytes = length-append device.tape bytes in
     let screen : drawn_all (screen_of (drop before.base device.tape)) bytes ≡ screen_of (drop after.base (device.tape ++ bytes)) =
-    screen_behind before.base device.tape bytes is.base ∙ ap (λ (n : ℕ). screen_of (drop n (device.tape ++ bytes))) (sym counts.base) in
+    screen_behind before.base device.tape bytes is.tape.base ∙ ap (λ (n : ℕ). screen_of (drop n (device.tape ++ bytes))) (sym counts.base) in
     record {
-      counted = counts.written ∙ counted_is before.written bytes (omega (arith, is.counted)) ∙ omega (arith, is.counted, more);
-      base = omega (arith, counts.base, is.base, more);
-      rows = subst (λ (s : Screen). ShowsScreen new tty s) screen (shows (screen_of (drop before.base device.tape)) is.rows);
+      tape = record {
+        counted = counts.written ∙ counted_is before.written bytes (omega (arith, is.tape.counted)) ∙ omega (arith, is.tape.counted, more);
+        base = omega (arith, counts.base, is.tape.base, more);
+        rows = subst (λ (s : Screen). ShowsScreen new tty s) screen (shows (screen_of (drop before.base device.tape)) is.tape.rows);
+      };
       display = ap (λ (s : Screen). drawn_all s bytes) is.display ∙ screen;
     }
 

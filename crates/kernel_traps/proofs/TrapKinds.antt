@@ -36,7 +36,8 @@ use Rattle.syscalls.proofs.Exported.{entered_then, goes_on_then}
 use Rattle.ow_plant.specs.State.{PlantState, entered, risen}
 use Rattle.intent_store.specs.Live.{records_held}
 use Rattle.word_store.proofs.Outcomes.{on_err}
-use Rattle.kernel_traps.specs.Plants.{IsHeldSound, IsInTrap, IsSound, tapes_of, unix_at}
+use Rattle.ow_plant.specs.Images.{tapes_of}
+use Rattle.kernel_traps.specs.Plants.{IsHeldSound, IsInTrap, IsSound, unix_at}
 use Rattle.kernel_traps.specs.Ending.{CanBeServed, EndsTrap, HasStep, IsEnded, MayBeLeftOfPlan}
 use Rattle.kernel_traps.specs.Traps.{CanHave, IsHad, IsInMode, IsLiveAs, IsPlanOf, IsSlotOf, IsTrapMade, MayBeLeftOfTrap, begun_by, plan_for, served_items, signal_items_by, user_before}
 use Rattle.kernel_traps.proofs.Entering.{MayTrap, begins, steps_begun}

@@ -17,7 +17,8 @@ use Rattle.syscalls.specs.Planned.{Planned, PlanOnce, PlanWrite, pages_in}
 use Rattle.syscalls.specs.Serving.{IsDoable, plan_of}
 use Rattle.ow_plant.specs.State.{PlantState, left_trap, tty_of, Device}
 use Rattle.intent_store.specs.Live.{held_of, map_of, records_held, rest_of}
-use Rattle.kernel_traps.specs.Plants.{IsInTrap, IsOfDevice, IsSound, context_of, tapes_of, unix_at}
+use Rattle.ow_plant.specs.Images.{tapes_of}
+use Rattle.kernel_traps.specs.Plants.{IsInTrap, IsOfDevice, IsSound, context_of, unix_at}
 use Rattle.kernel_traps.specs.Carrying.{IsCarriedOut, bytes_of}
 use Rattle.kernel_traps.specs.Ending.{IsEnded}
 use Rattle.kernel_traps.specs.Turning.{IsSameMachine}
@@ -86,7 +87,7 @@ same_device s (suc (suc n)) low = absurd (omega (arith, low))
 
 told_by_device : (s : PlantState) (tty : ℕ) (held : Option TermRec) → tty < 2 → IfSome held (IsOfDevice (records_held s) tty (tty_of s tty))
     → IfSome held (λ terminal. terminal.written ≡ length (tapes_of s tty))
-told_by_device s tty (Some terminal) low is = is.counted ∙ sym (ap (λ (t : List ℕ). length t) (same_device s tty low))
+told_by_device s tty (Some terminal) low is = is.tape.counted ∙ sym (ap (λ (t : List ℕ). length t) (same_device s tty low))
 told_by_device s tty None low is = tt
 
 pub service_done : (b new : PlantState) (slot steps : ℕ) (process : ProcRec) (s : Service) → IsInTrap b steps → b.shape.budget ≤ 2000000 → (records_held b).procs slot ≡ Some process

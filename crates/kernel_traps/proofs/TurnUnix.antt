@@ -17,8 +17,9 @@ use Rattle.process_table.proofs.Chosen.{any_live_is, chosen_is, none_chosen}
 use Rattle.process_table.proofs.Holding.{such_found}
 use Rattle.ow_plant.specs.State.{PlantState, now_of}
 use Rattle.intent_store.specs.Live.{records_held}
+use Rattle.ow_plant.specs.Images.{tapes_of}
 use Rattle.kernel_traps.specs.Due.{IsSettled}
-use Rattle.kernel_traps.specs.Plants.{IsSound, context_of, tapes_of, unix_at}
+use Rattle.kernel_traps.specs.Plants.{IsSound, context_of, unix_at}
 use Rattle.kernel_traps.specs.Traps.{IsLiveAs}
 use Rattle.kernel_traps.specs.Turning.{IsSameMachine, IsSomeLive}
 use Rattle.kernel_traps.proofs.TrapKinds.{kernel_unix}

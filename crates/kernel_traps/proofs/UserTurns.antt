@@ -16,7 +16,8 @@ use Rattle.record_layouts.specs.Held.{Records}
 use Rattle.record_layouts.specs.Pages.{pages_of, table_frame}
 use Rattle.record_layouts.specs.Proc.{FitsProc}
 use Rattle.record_layouts.specs.Reading.{records_in, records_of}
-use Rattle.record_layouts.specs.Sound.{AreOnTerminals, AreSound, IsIn}
+use Rattle.record_layouts.specs.Sound.{AreInWrites, AreOnTerminals, AreSound, IsIn}
+use Rattle.record_layouts.specs.SoundImages.{IsServedBefore}
 use Rattle.record_layouts.specs.Unix.Turn.{step_of, stepped, turn_at, user_turn}
 use Rattle.record_layouts.specs.Unix.State.{AtUser, Process, Unix}
 use Rattle.frame_table.specs.Maps.{AreOfMemory, map_of as pages_map}
@@ -29,7 +30,8 @@ use Rattle.ow_plant.specs.declared.UserEnd.{UserEnd}
 use Rattle.ow_plant.specs.declared.UserEnd.TheVariants as end
 use Rattle.ow_plant.proofs.Programs.{root_seen, with_seen, words_seen}
 use Rattle.intent_store.specs.Live.{map_of, records_held}
-use Rattle.kernel_traps.specs.Plants.{AreInWrites, IsOfDevice, IsRunning, IsSound, context_of, tapes_of, unix_at}
+use Rattle.ow_plant.specs.Images.{tapes_of}
+use Rattle.kernel_traps.specs.Plants.{IsOfDevice, IsRunning, IsSound, context_of, unix_at}
 use Rattle.kernel_traps.specs.User.{IsInUser, IsStepped, IsTurnOf, IsUserTurn}
 use Rattle.kernel_traps.proofs.Causes.{fault_status}
 use Rattle.kernel_traps.proofs.Isolated.{IsKept, gate_stays, kept_first, sets_kept}
@@ -131,7 +133,7 @@ module _ (s : PlantState) (sound : IsSound s) (in_user : s.in_user ≡ true) (sl
         in_writes = by_records AreInWrites sound.held.in_writes;
       };
       no_trap_runs = sound.no_trap_runs;
-      served = by_records (λ (r : Records). IfSome r.head (λ head. head.served < (now_of s).trap)) sound.served;
+      served = by_records (λ (r : Records). IsServedBefore r (now_of s).trap) sound.served;
       terminals = record {
         records = λ tty low. by_records (λ (r : Records). IfSome (r.terms tty) (IsOfDevice r tty (tty_of s tty))) (sound.terminals.records tty low);
         bytes = λ tty low. omega (arith, one_more, sound.terminals.bytes tty low);

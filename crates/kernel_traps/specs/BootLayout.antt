@@ -1,9 +1,10 @@
 -- Where the pages of a load lie: in user frames one behind the other, start after start, those of a start by their page.
-use Rattle.std.specs.Prelude.{ℕ, zero, suc, ◌+◌, ◌-◌, ◌*◌, nat_lt, not, ◌&&◌, if◌then◌else◌, length, slice_index, Option, Some, None}
+use Rattle.std.specs.Prelude.{ℕ, ◌+◌, ◌-◌, ◌*◌, Bool, nat_lt, if◌then◌else◌, length, slice_index, Option, Some, None}
 use Rattle.ow_base.specs.World.{page_count}
 use Rattle.ow_base.specs.declared.worlds.Load.{Load}
 use Rattle.ow_base.specs.declared.worlds.Program.{Program}
 use Rattle.record_layouts.specs.declared.memory_map.MemoryMap.{MemoryMap}
+use Rattle.record_layouts.specs.Unix.Choice.{least_from}
 use Rattle.record_layouts.specs.Unix.State.{is_within}
 use Rattle.kernel_builder.specs.declared.blueprint.Placed.{Placed}
 use Rattle.kernel_builder.specs.declared.blueprint.Holder.{Holder}
@@ -54,13 +55,20 @@ abbrev pub word_by : Option Program → (page word : ℕ) → ℕ
 word_by (Some program) page word = word_at program (number_in program page) word
 word_by None page word = 0
 
--- what a frame holds, of the pages of so many starts
-unfoldable pub holder_below : Load → (count frame : ℕ) → Option Holder
-holder_below load zero frame = None
-holder_below load (suc slot) frame =
-    if not (nat_lt frame (pages_before load slot)) && nat_lt frame (pages_before load (suc slot))
-    then Some (record { slot = slot; page = page_by (program_in load slot) (frame - pages_before load slot) })
-    else holder_below load slot frame
+-- the start that has a frame: the least whose pages end behind it
+abbrev pub ends_behind : Load → (frame slot : ℕ) → Bool
+ends_behind load frame slot = nat_lt frame (pages_before load (slot + 1))
+
+abbrev pub start_with : Load → (frame : ℕ) → Option ℕ
+start_with load frame = least_from (ends_behind load frame) 0 (length load.starts)
+
+-- what a frame holds
+abbrev pub held_from : Load → (frame : ℕ) → Option ℕ → Option Holder
+held_from load frame (Some slot) = Some (record { slot = slot; page = page_by (program_in load slot) (frame - pages_before load slot) })
+held_from load frame None = None
+
+unfoldable pub holder_of : Load → (frame : ℕ) → Option Holder
+holder_of load frame = held_from load frame (start_with load frame)
 
 -- what a new kernel begins with
 abbrev pub booted_plan : Load → Plan
@@ -68,7 +76,7 @@ booted_plan load = record {
   record_of = booted_record load;
   is_live = λ slot. nat_lt slot (length load.starts);
   page_at = λ slot page. placed_by (program_in load slot) (pages_before load slot) page;
-  holder = λ frame. holder_below load (length load.starts) frame;
+  holder = holder_of load;
   word_at = λ slot page word. word_by (program_in load slot) page word;
 }
 

@@ -9,7 +9,7 @@ use Rattle.syscalls.specs.Done.{KeepsSound}
 use Rattle.ow_plant.specs.declared.refusal.Refusal.TheVariants as refusal
 use Rattle.ow_plant.specs.State.{PlantState, left_trap}
 use Rattle.intent_store.specs.Live.{held_of}
-use Rattle.kernel_traps.specs.Plants.{AreInWrites}
+use Rattle.record_layouts.specs.Sound.{AreInWrites}
 use Rattle.kernel_traps.specs.Carrying.{AreOfProcesses, IsCarriedOut, MayBeLeft}
 
 -- A plan that ends a trap: it sets records of the head and of processes alone, records stay sound, live processes keep

@@ -1,23 +1,22 @@
--- Which state of the Unix a plant stands for, and what holds of it between turns and inside a trap.
-use Rattle.std.specs.Prelude.{◌≡◌, ℕ, ◌+◌, ◌-◌, ◌*◌, ◌^◌, ◌<◌, ◌≤◌, true, false, ◌==◌, if◌then◌else◌, List, [], length, drop, None, IfSome}
+-- Which state of the Unix a plant stands for, and what holds of it between turns and inside a trap. What is said of its
+-- image is said of images, and of the machine beside it what no image shows.
+use Rattle.std.specs.Prelude.{◌≡◌, ℕ, ◌+◌, ◌-◌, ◌*◌, ◌^◌, ◌<◌, ◌≤◌, true, false, if◌then◌else◌, length, drop, None, IfSome}
 use Rattle.ow_base.specs.Screen.{screen_of}
-use Rattle.phys_memory.specs.Memory.{words_of}
 use Rattle.sv32_tables.specs.Spaces.{satp_of}
 use Rattle.record_layouts.specs.declared.proc.ProcRec.{ProcRec}
 use Rattle.record_layouts.specs.declared.term.TermRec.{TermRec}
 use Rattle.record_layouts.specs.declared.intent.Gate.TheVariants.{Closed}
 use Rattle.record_layouts.specs.Held.{Records}
+use Rattle.record_layouts.specs.Images.{unix_of_image}
 use Rattle.record_layouts.specs.Pages.{table_frame}
-use Rattle.record_layouts.specs.Decode.{Context, InKernel, InUser, unix_of}
-use Rattle.record_layouts.specs.Sound.{AreOnTerminals, AreSound, IsIn}
+use Rattle.record_layouts.specs.Decode.{Context, InKernel, InUser}
+use Rattle.record_layouts.specs.Sound.{AreInWrites, AreOnTerminals, AreSound, IsIn}
+use Rattle.record_layouts.specs.SoundImages.{IsServedBefore}
+use Rattle.record_layouts.specs.Terminals.{IsOfTape}
 use Rattle.record_layouts.specs.Unix.State.{Unix}
-use Rattle.tty_screen.specs.Shown.{ShowsScreen}
+use Rattle.ow_plant.specs.Images.{image_of}
 use Rattle.ow_plant.specs.State.{PlantState, IsArmed, now_of, tty_of, Device}
 use Rattle.intent_store.specs.Live.{records_held, gate_held}
-
--- the tapes of the two terminals
-abbrev pub tapes_of : PlantState → (tty : ℕ) → List ℕ
-tapes_of s tty = if tty == 0 then s.tty0.tape else if tty == 1 then s.tty1.tape else []
 
 -- what the processor has of a process
 abbrev pub context_of : PlantState → Context
@@ -25,24 +24,18 @@ context_of s = if s.in_user then InUser s.user_pid s.slice s.bank else InKernel
 
 -- the state of the Unix
 unfoldable pub unix_at : PlantState → Unix
-unix_at s = unix_of (records_held s) (words_of s.memory) (tapes_of s) (context_of s) s.steps s.traps
+unix_at s = unix_of_image (image_of s) (context_of s) s.steps s.traps
 
--- The record of a terminal counts the bytes of the device, its base is no more, and the device shows the screen of the
--- bytes from the base on, as the records of the terminal do.
+-- The record of a terminal is of the device's tape, and the device shows the screen of the bytes from the base on, as the
+-- records of the terminal do.
 pub record IsOfDevice (r : Records) (tty : ℕ) (device : Device) (terminal : TermRec) : Type 0 where
-  pub counted : terminal.written ≡ length device.tape
-  pub base : terminal.base ≤ length device.tape
-  pub rows : ShowsScreen r tty (screen_of (drop terminal.base device.tape))
+  pub tape : IsOfTape r tty device.tape terminal
   pub display : device.display ≡ screen_of (drop terminal.base device.tape)
 
 -- both terminals, after so many steps in which bytes went out: at most 16 in each
 pub record AreTerminalsSound (s : PlantState) (steps : ℕ) : Type 0 where
   pub records : (tty : ℕ) → tty < 2 → IfSome ((records_held s).terms tty) (IsOfDevice (records_held s) tty (tty_of s tty))
   pub bytes : (tty : ℕ) → tty < 2 → length (tty_of s tty).tape ≤ 16 * steps
-
--- the calls that take pieces and are built are writes: a process in a call is in one
-pub record AreInWrites (r : Records) : Type 0 where
-  pub each : (slot : ℕ) (process : ProcRec) → IsIn r slot process → process.state ≡ 2 → process.call ≡ 2
 
 -- what holds of memory and of the records in it while no refusal stands, between turns and inside a trap
 pub record IsHeldSound (s : PlantState) : Type 0 where
@@ -64,7 +57,7 @@ pub record IsRunning (s : PlantState) (slot : ℕ) (process : ProcRec) : Type 0 
 pub record IsSound (s : PlantState) : Type 0 where
   pub held : IsHeldSound s
   pub no_trap_runs : s.in_trap ≡ false
-  pub served : IfSome (records_held s).head (λ head. head.served < (now_of s).trap)
+  pub served : IsServedBefore (records_held s) (now_of s).trap
   pub terminals : AreTerminalsSound s s.steps
   pub budget : s.steps ≤ s.shape.budget
   pub in_user : s.in_user ≡ true → (slot : ℕ) × (process : ProcRec) × IsRunning s slot process
@@ -75,7 +68,7 @@ pub record IsInTrap (s : PlantState) (steps : ℕ) : Type 0 where
   pub held : IsHeldSound s
   pub a_trap_runs : s.in_trap ≡ true
   pub in_kernel : s.in_user ≡ false
-  pub served : IfSome (records_held s).head (λ head. head.served < s.traps)
+  pub served : IsServedBefore (records_held s) s.traps
   pub fits : s.traps < 2 ^ 32 - 1
   pub counted : steps ≤ s.steps
   pub terminals : AreTerminalsSound s steps

@@ -5,6 +5,7 @@
 mod booting;
 mod ended;
 mod ending;
+mod laws;
 mod services;
 mod serving;
 mod traps;
@@ -13,5 +14,6 @@ mod user;
 
 pub use booting::{boot, worlds_can_boot};
 pub use ended::all_have_ended;
+pub use laws::sound_plants_have_sound_images;
 pub use serving::{serve_trap, shutdown};
 pub use turns::Turn;

@@ -205,7 +205,7 @@ terminal_shown : (r : Records) (tty : ℕ) (device : Device) (o : Option TermRec
     → ((terminal_by device.tape o).tape ≡ device.tape) × (shown_on (terminal_by device.tape o) ≡ device.display)
 terminal_shown r tty device None there is = absurd (cc there)
 terminal_shown r tty device (Some terminal) there is =
-    let not_ahead : nat_eq terminal.written (length device.tape + 1) ≡ false = grind (arith, nat_tests, is.counted) in
+    let not_ahead : nat_eq terminal.written (length device.tape + 1) ≡ false = grind (arith, nat_tests, is.tape.counted) in
     rw not_ahead (refl, sym is.display)
 
 -- one process more

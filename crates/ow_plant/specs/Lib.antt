@@ -6,3 +6,4 @@ pub mod State
 pub mod Lent
 pub mod Owning
 pub mod Lending
+pub mod Images

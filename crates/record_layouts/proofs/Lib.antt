@@ -1,5 +1,5 @@
 -- Lemmas on turns and their traps, on records of any kind, on lists that are laid one behind the other, on bytes in
--- words, on how the records with lists are written, on how records are read, on the ranges of an intent, and on what
+-- words, on how the records with lists are written, on how records are read, on pages that have frames, on the ranges of an intent, and on what
 -- these and single stores make of the records of an area.
 pub mod Turning
 pub mod Surviving
@@ -19,3 +19,4 @@ pub mod Files
 pub mod Ranges
 pub mod Intents
 pub mod Items
+pub mod Frames

@@ -1,5 +1,5 @@
 -- What a panic left of a process, by the records and by what was handed over, and the first part that cannot be read.
-use Rattle.std.specs.Prelude.{◌≡◌, ℕ, ◌<◌, ◌⊎◌, Bool, true, false, not, ◌==◌, ◌&&◌, ◌||◌, if◌then◌else◌, Option, Some, None, is_some}
+use Rattle.std.specs.Prelude.{◌≡◌, ℕ, ◌+◌, ◌/◌, ◌^◌, ◌<◌, ◌⊎◌, Bool, true, false, not, ◌==◌, ◌&&◌, if◌then◌else◌, Option, Some, None, is_some}
 use Rattle.ow_base.specs.UserStep.{register}
 use Rattle.ow_base.specs.declared.machine.Bank.{Bank}
 use Rattle.ow_base.specs.declared.machine.Came.{Came}
@@ -10,6 +10,8 @@ use Rattle.record_layouts.specs.declared.dead_proc.DeadProc.{DeadProc}
 use Rattle.record_layouts.specs.declared.places.RecordId.{RecordId}
 use Rattle.record_layouts.specs.declared.places.RecordId.TheVariants as id
 use Rattle.record_layouts.specs.Held.{Records}
+pub use Rattle.record_layouts.specs.Unix.Abort.{is_aborted, is_made_again, stands_at}
+use Rattle.record_layouts.specs.Unix.Choice.{is_any}
 use Rattle.record_layouts.specs.Pages.{frame_of, high_place, is_linked, is_live, low_place, region_of}
 
 -- what a panic hands over: the trap that broke, its process or 0, from where the processor came, and what it had of a
@@ -64,18 +66,6 @@ call_found handed head process =
     if process.state == 2 then Some process.call else
     if is_caller handed head process.pid then Some (register (left_rec handed head process).regs 17) else None
 
--- exit 1, sigreturn 14, crashreturn 16 and yield 18 are made again, and each other call is answered as aborted
-abbrev pub is_made_again : (number : ℕ) → Bool
-is_made_again number = number == 1 || number == 14 || number == 16 || number == 18
-
-abbrev pub stands_at : Option ℕ → Bool
-stands_at (Some number) = is_made_again number
-stands_at None = false
-
-abbrev pub is_aborted : Option ℕ → Bool
-is_aborted (Some number) = not (is_made_again number)
-is_aborted None = false
-
 -- what a panic left of the process in a slot that has this record
 unfoldable pub dead_proc : Records → Option HandedOver → (slot : ℕ) → ProcRec → DeadProc
 dead_proc r handed slot process = record {
@@ -115,3 +105,14 @@ IsFirstUnreadable r slot pid one index =
     ⊎ ((one ≡ id.Proc slot) × (index ≡ 1) × (is_some r.head ≡ true) × (is_record_of pid (r.procs slot) ≡ true) × (has_tables r slot ≡ false))
     ⊎ ((one ≡ id.Proc slot) × AreRead r slot pid × (lacks_frame r slot index (r.procs slot) ≡ true)
     × ((lower : ℕ) → lower < index → lacks_frame r slot lower (r.procs slot) ≡ false))
+
+-- the word that names the owner of a cache entry names this file
+abbrev pub names_file : (file word : ℕ) → Bool
+names_file file word = word / 2 ^ 20 == file + 1
+
+-- an entry of the cache does not decode, and its owner is of this file; so a page of the file may be lost
+abbrev pub is_lost_entry : Records → (file entry : ℕ) → Bool
+is_lost_entry r file entry = not (is_some (r.caches entry)) && names_file file (r.cache_owners entry)
+
+unfoldable pub may_lack_page : Records → (file : ℕ) → Bool
+may_lack_page r file = is_any (is_lost_entry r file) 0 64

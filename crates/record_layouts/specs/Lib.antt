@@ -26,6 +26,9 @@ pub mod Left
 pub mod Terminals
 pub mod Halves
 pub mod Reading
+pub mod Images
+pub mod SoundImages
+pub mod LeftImages
 pub mod Tests
 pub mod Fitting
 pub mod Values

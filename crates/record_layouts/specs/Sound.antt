@@ -75,11 +75,22 @@ is_table_place process table word =
     || (table == 1 && is_some (region_of process word))
     || (table == 2 && is_some (region_of process (1024 * high_place + word)))
 
--- Tables: each process has a frame for each of its pages, and all other words of its tables are 0.
+-- each process has a frame for each of its pages
+abbrev pub HaveFrames : Records → Type 0
+HaveFrames r = (slot : ℕ) (process : ProcRec) → IsIn r slot process → is_mapped r slot process ≡ true
+
+-- all words of the tables of a process that no page of it uses are 0
+abbrev pub HaveCleanTables : Records → Type 0
+HaveCleanTables r = (slot : ℕ) (process : ProcRec) → IsIn r slot process → (table word : ℕ) → table < 3 → word < 1024
+    → is_table_place process table word ≡ false → r.table_words slot table word ≡ 0
+
 pub record AreMapped (r : Records) : Type 0 where
-  pub mapped : (slot : ℕ) (process : ProcRec) → IsIn r slot process → is_mapped r slot process ≡ true
-  pub clean : (slot : ℕ) (process : ProcRec) → IsIn r slot process → (table word : ℕ) → table < 3 → word < 1024
-      → is_table_place process table word ≡ false → r.table_words slot table word ≡ 0
+  pub mapped : HaveFrames r
+  pub clean : HaveCleanTables r
+
+-- The calls that take pieces and are built are writes: a process in a call is in one.
+pub record AreInWrites (r : Records) : Type 0 where
+  pub each : (slot : ℕ) (process : ProcRec) → IsIn r slot process → process.state ≡ 2 → process.call ≡ 2
 
 pub record AreSound (r : Records) : Type 0 where
   pub complete : AreComplete r

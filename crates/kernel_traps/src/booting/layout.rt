@@ -2,7 +2,7 @@
 ghost use Rattle.std.specs.Prelude.{◌≡◌, ◌+◌, ◌^◌, ◌<◌, ◌≤◌, length, slice_index, Some, IfSome};
 ghost use Rattle.ow_base.specs.World.{started_page_count};
 ghost use Rattle.kernel_traps.specs.Boot.{IsBootable, IsLoadable, program_in};
-ghost use Rattle.kernel_traps.specs.BootLayout.{holder_below, low_pages, number_in, page_in, word_in};
+ghost use Rattle.kernel_traps.specs.BootLayout.{holder_of, low_pages, number_in, page_in, word_in};
 ghost use Rattle.kernel_traps.specs.Boot.{pages_before};
 
 use super::records::{boot_record, pages_for, program_at};
@@ -125,10 +125,10 @@ fn first_frame(load: &Load, slot: u32) -> u32
     first
 }
 
-// What a frame holds, of the pages of so many starts.
+// What a frame holds.
 fn find_holder(load: &Load, frame: u32) -> Option<Holder>
     requires { IsBootable load.now }
-    ensures is { result ≡ holder_below load.now (length load.now.starts) frame }
+    ensures is { result ≡ holder_of load.now frame }
     ensures fits { IfSome result (λ holder. (holder.slot < 16) × (holder.page < 2 ^ 19)) }
 {
     let mut first = 0;

@@ -18,7 +18,7 @@ returns-then-frame-next-clause-is c =
     let more = pages_more load slot c.started.result.now low c.started.ensures.is in
     let place : c.args.frame ≡ pages_before load slot + number = omega (arith, c.loop-slot.invariant.first, c.loop-slot.invariant.behind) in
     ap (λ page. Some (record { slot = slot; page = page })) c.page_of-page.ensures.is
-    ∙ sym (holder_found load c.requires (length load.starts) slot c.args.frame number c.started.result.now (omega arith) low c.started.ensures.is
+    ∙ sym (holder_found load slot c.args.frame number c.started.result.now low c.started.ensures.is
     (omega (arith, more, c.count_pages.ensures, c.if-frame-next.true, c.loop-slot.invariant.first)) place)
 
 pub returns-clause-is : goal.returns-clause-is
@@ -26,4 +26,4 @@ returns-clause-is c =
     let load = c.args.load.now in
     let last : c.loop-slot.slot ≡ length c.args.load.now.starts = omega (arith, ap length c.items.ensures) in
     let first = c.loop-slot.invariant.first ∙ ap (λ (slot : ℕ). pages_before c.args.load.now slot) last in
-    sym (holder_missed load (length load.starts) c.args.frame (omega (arith, first, c.loop-slot.invariant.behind)))
+    sym (holder_missed load c.args.frame (omega (arith, first, c.loop-slot.invariant.behind)))
