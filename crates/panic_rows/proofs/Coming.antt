@@ -1,5 +1,5 @@
 -- Which panics come in a run: those that are listed for a trap which it reaches.
-use Rattle.std.proofs.Common.{◌≡◌, ◌∙◌, ◌+◌, ◌≤◌, ◌<◌, ◌==◌, ◌⊎◌, ℕ, nat_lt, Bool, true, false, List, [], ◌∷◌, Option, Some, None, inl, inr, refl, sym, ap, subst, arith}
+use Rattle.std.proofs.Common.{◌≡◌, ◌∙◌, ◌+◌, ◌≤◌, ◌<◌, ◌==◌, ◌⊎◌, ℕ, nat_lt, true, List, ◌∷◌, Option, Some, None, inl, inr, refl, sym, ap, subst, arith}
 use Rattle.std.specs.Prelude.{is_some, option_and_then}
 use Rattle.std.proofs.lemmas.Bool.{cases_Bool}
 use Rattle.std.proofs.lemmas.Bool.Decides.{nat_tests}
@@ -14,7 +14,6 @@ use Rattle.record_layouts.specs.Unix.State.{Unix, Process, Position, AtKernel, A
 use Rattle.record_layouts.specs.Unix.Choice.{no_keys, settled}
 use Rattle.record_layouts.specs.Unix.Turn.{closed, ending_of, step_of, stepped, turn}
 use Rattle.record_layouts.specs.Unix.Traps.{closing_of, instructed, instructed_by, next_trap, trap_at, trap_of_step, trap_of_turn, trap_of_user, turned_by}
-use Rattle.record_layouts.specs.Unix.Wounds.{Wounds}
 use Rattle.record_layouts.specs.Unix.Abort.{abort}
 use Rattle.record_layouts.specs.Unix.Panics.{Due, Ends, GoesOn, Images, IsAtPoint, IsPanicEntry, Panics, RunsWith, due_at, due_of, line_for, revived_from, state_left}
 use Rattle.record_layouts.specs.Unix.PanicReport.{entry_for}
@@ -55,7 +54,7 @@ trap_counts : (shape : Shape) (u : Unix) (t : Trap) → trap_of_turn no_keys sha
 trap_counts shape u t is =
     let s = settled no_keys u in
     ap (λ (w : Unix). w.traps) (turn_is shape u ∙ ap (turned_by s) is)
-        ∙ (turn_counts no_keys shape u t is).traps ∙ ap (λ n. n + 1) (settled_alike no_keys u).1
+    ∙ (turn_counts no_keys shape u t is).traps ∙ ap (λ n. n + 1) (settled_alike no_keys u).1
 
 -- the panic that is due is the one that is listed for the next trap
 line_of_none : (t : Trap) (o : Option PanicLine) → due_of t o ≡ None → o ≡ None
@@ -86,8 +85,8 @@ module _ (world : World) where
       let not_listed = none_listed u t none next in
       elim (cases_Bool (n == u.traps + 1)) [
         | inl same ↦
-          let number : n ≡ u.traps + 1 = grind (arith, nat_tests) in
-          let some : line_for world.panics (u.traps + 1) ≡ Some line = subst (λ k. line_for world.panics k ≡ Some line) number at in absurd (cc (some, not_listed))
+            let number : n ≡ u.traps + 1 = grind (arith, nat_tests) in
+            let some : line_for world.panics (u.traps + 1) ≡ Some line = subst (λ k. line_for world.panics k ≡ Some line) number at in absurd (cc (some, not_listed))
         | inr other ↦ rw (trap_counts world.load.shape u t is) (grind (arith, nat_tests))
       ]
 
@@ -120,8 +119,8 @@ module _ (world : World) where
     comes u h told e w n line (Panics u1 due r h1 t1 e1 w1 is entry run) at below within = elim (cases_Bool (n == u1.traps + 1)) [
       | inl same ↦ let number : r.trap ≡ n = entry.trap ∙ grind (arith, nat_tests) in first_is r h1 n number
       | inr other ↦
-        let later : (revived_from images u1 due r).traps < n = rw (counted u1 due r entry) (grind (arith, nat_tests)) in
-        behind r h1 n (comes (revived_from images u1 due r) h1 t1 e1 w1 n line run at later within)
+          let later : (revived_from images u1 due r).traps < n = rw (counted u1 due r entry) (grind (arith, nat_tests)) in
+          behind r h1 n (comes (revived_from images u1 due r) h1 t1 e1 w1 n line run at later within)
     ]
 
     -- and each entry is of a panic that is listed

@@ -122,9 +122,9 @@ piece_alike u pid p number done Out is = absurd (cc is)
 piece_alike u pid p number done (In n d) is =
     let v = trapped u pid in
     if_alike v (piece_on v pid p d (description_of v p (argument p 0))) v (n == 2) (on (description_of v p (argument p 0))) (record { steps = refl; traps = refl; last = refl }) where
-  on : (o : Option Description) → AreAlike (trapped u pid) (piece_on (trapped u pid) pid p d o)
-  on (Some o) = write_alike (trapped u pid) pid p d o.object
-  on None = record { steps = refl; traps = refl; last = refl }
+      on : (o : Option Description) → AreAlike (trapped u pid) (piece_on (trapped u pid) pid p d o)
+      on (Some o) = write_alike (trapped u pid) pid p d o.object
+      on None = record { steps = refl; traps = refl; last = refl }
 
 of_piece : (u : Unix) (pid number done : ℕ) (p : Process) → u.processes pid ≡ Some p → p.call ≡ In number done → Counts (trap.Piece pid) u (after_trap u (trap.Piece pid))
 unfolding after_trap piece_of

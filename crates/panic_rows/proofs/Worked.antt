@@ -1,12 +1,12 @@
 -- The worked runs, computed.
-use Rattle.std.proofs.Common.{arith, ◌≡◌, ℕ, List, [], ◌∷◌, Some, None, inl, inr, refl}
+use Rattle.std.proofs.Common.{arith, ◌≡◌, [], ◌∷◌, Some, None, inl, inr, refl}
 use Rattle.ow_base.specs.declared.worlds.Ending.TheVariants.{Done, Budget}
 use Rattle.std.specs.Fmt.{digits}
 use Rattle.ow_base.specs.Lines.{escaped_byte}
 use Rattle.ow_base.specs.UserStep.{act_of, acted, after_fetch, after_load, after_store, branch_act, gone_to, immediate_act, load_act, register_act, store_act, system_act, user_step}
 use Rattle.ow_base.specs.Pages.{bytes_at, is_readable, page_space}
 use Rattle.ow_base.specs.Screen.{blank_screen, drawn, on_next_line, printed, screen_of}
-use Rattle.record_layouts.specs.Unix.State.{in_use, is_among, is_named, start_of, started_as, started_byte, started_description, started_pages, started_process, started_rights, Unix}
+use Rattle.record_layouts.specs.Unix.State.{in_use, is_among, is_named, start_of, started_as, started_byte, started_description, started_pages, started_process, started_rights}
 use Rattle.record_layouts.specs.Unix.Choice.{chosen, deliverable, goes_on, is_any_live, least_from, settled}
 use Rattle.record_layouts.specs.Unix.Calls.{answered, call_entered, called, continued, description_of, ended_as, exit_entry, piece_of, stays_in, trapped, tty_write, write_entry}
 use Rattle.record_layouts.specs.Unix.Turn.{closed, ending_of, idled, step_of, stepped, turn, turn_at, user_turn}
@@ -14,7 +14,7 @@ use Rattle.record_layouts.specs.Unix.Traps.{after_trap, next_trap, trap_at, trap
 use Rattle.record_layouts.specs.Unix.Broken.{done_of, IsDone, IsPartlyPut, IsUndone, partly_put, undone_of}
 use Rattle.record_layouts.specs.Unix.Wounds.{no_wounds}
 use Rattle.record_layouts.specs.Unix.Abort.{abort, bits_lost, bits_of, brought_out, fate_of, fates, fates_from, is_one}
-use Rattle.record_layouts.specs.Unix.Panics.{Due, due_at, Ends, Images, IsPanicEntry, line_for, RunWith}
+use Rattle.record_layouts.specs.Unix.Panics.{due_at, Ends, Images, line_for, RunWith}
 use Rattle.record_layouts.specs.Unix.Report.{head_text, out_lines, process_lines, row_lines, screen_text, status_words, terminal_text, trimmed}
 use Rattle.record_layouts.specs.Unix.PanicReport.{entry_for, panic_line, panic_lines, report_with, unused_lines}
 use Rattle.panic_rows.specs.Rows.{after, at_leave, at_store, byte_damage, byte_hurt, damaged_at, damaging_at, exit_closing, exit_closing_end, exit_closing_left, exit_closing_report, exit_first, exit_first_end, exit_first_left, exit_first_report, exit_leave, exit_leave_end, exit_leave_left, exit_leave_report, exit_unused, exit_unused_report, exit_with, head_damage, head_lost, hi_first, hi_first_end, hi_first_left, hi_first_report, hi_hurt, hi_hurt_end, hi_hurt_left, hi_hurt_report, hi_leave, hi_leave_end, hi_leave_left, hi_leave_report, hi_lost, hi_lost_end, hi_lost_left, hi_lost_report, hi_mid, hi_mid_end, hi_mid_left, hi_mid_report, hi_with, loop_closing, loop_closing_end, loop_closing_left, loop_closing_report, loop_twice, loop_twice_end, loop_twice_left, loop_twice_left_again, loop_twice_report, loop_with, panic_at, retried_panics, retried_unused, revived, scroll, scroll_end, scroll_leave, scroll_leave_end, scroll_leave_left, scroll_leave_report, scroll_left, scroll_with, second_damage, second_lost, three_hi, three_hi_end, three_hi_left, three_hi_report, turned_on, writers, writers_end, writers_left, writers_report}

@@ -1,5 +1,5 @@
 -- Worked worlds with panics, the states that their panics leave, and their reports.
-use Rattle.std.specs.Prelude.{ℕ, zero, suc, ◌==◌, if◌then◌else◌, List, [], ◌∷◌, ◌++◌, replicate, codes, true, false, Option, Some, None}
+use Rattle.std.specs.Prelude.{ℕ, zero, suc, ◌==◌, if◌then◌else◌, List, [], ◌∷◌, ◌++◌, replicate, codes, true, false, Some, None}
 use Rattle.ow_base.specs.declared.machine.AreaId.TheVariants as area
 use Rattle.ow_base.specs.declared.machine.Shape.{Shape}
 use Rattle.ow_base.specs.declared.worlds.World.{World}

@@ -1,6 +1,6 @@
 -- What a panic that wounds nothing makes of processes.
 use Rattle.std.proofs.Common.{◌≡◌, ◌∙◌, ◌+◌, ◌≤◌, ◌==◌, ℕ, zero, suc, Bool, true, false, List, [], ◌∷◌, Option, Some, None, inl, inr, refl, sym, ap, subst, arith}
-use Rattle.std.specs.Prelude.{◌<◌, map, not, is_some, option_map}
+use Rattle.std.specs.Prelude.{◌<◌, map, is_some, option_map}
 use Rattle.std.specs.List.{All, AllPairs}
 use Rattle.std.proofs.lemmas.List.Elements.{All-cons, All-nil}
 use Rattle.std.proofs.lemmas.List.Kept.{AllPairs-cons}
@@ -16,7 +16,7 @@ use Rattle.record_layouts.specs.Unix.Turn.{ending_of}
 use Rattle.record_layouts.specs.Unix.Traps.{after_trap, closing_of, next_trap}
 use Rattle.record_layouts.specs.Unix.Broken.{done_of, undone_of}
 use Rattle.record_layouts.specs.Unix.Wounds.{Wounds, no_wounds}
-use Rattle.record_layouts.specs.Unix.Abort.{abort, bits_lost, bits_of, brought_out, call_at, exit_after, fate_of, fate_of_call, is_closed, is_made_again, is_one, is_open_on, is_undone_caller, fate_before, fate_in, fates, fates_from, kept_by, passes, status_by_fate, survivor, unless_closed}
+use Rattle.record_layouts.specs.Unix.Abort.{abort, bits_lost, brought_out, call_at, exit_after, fate_of, fate_of_call, is_closed, is_made_again, is_one, is_open_on, is_undone_caller, fate_before, fate_in, fates, fates_from, kept_by, passes, status_by_fate, survivor, unless_closed}
 use Rattle.record_layouts.specs.declared.fates.Fate.{Fate}
 use Rattle.record_layouts.specs.declared.fates.Fate.TheVariants as fate
 use Rattle.record_layouts.specs.declared.traps.Trap.{Trap}
@@ -155,7 +155,7 @@ module _ (shape : Shape) (u v : Unix) (ending : Ending) (ends : ending_of shape 
   still_ends =
       let live : is_any_live (λ pid. survivor v (no_wounds v) pid (v.processes pid)) 1 most_pids ≡ is_any_live u.processes 1 most_pids =
       same_live (λ pid. survivor v (no_wounds v) pid (v.processes pid)) v.processes (λ pid. survives v pid (v.processes pid)) 1 most_pids
-          ∙ ap (λ (s : Unix). is_any_live s.processes 1 most_pids) left in
+      ∙ ap (λ (s : Unix). is_any_live s.processes 1 most_pids) left in
       let steps : v.steps ≡ u.steps = ap (λ (s : Unix). s.steps) left ∙ omega arith in
       rw (live, steps) ends
 
@@ -207,11 +207,11 @@ module _ (v : Unix) (x : Wounds) where
   among first zero pid above below = absurd (omega arith)
   among first (suc n) pid above below = elim (cases_Bool (first == pid)) [
     | inl same ↦
-      let is : first ≡ pid = grind (arith, nat_tests) in
-      subst (λ q. fate_in (fates_from v x first (suc n)) q ≡ option_map (λ p. fate_of v x q p) (v.processes q)) is
-      (at_one first (v.processes first) (fates_from v x (first + 1) n) (none_below (first + 1) n first (omega arith)))
+        let is : first ≡ pid = grind (arith, nat_tests) in
+        subst (λ q. fate_in (fates_from v x first (suc n)) q ≡ option_map (λ p. fate_of v x q p) (v.processes q)) is
+        (at_one first (v.processes first) (fates_from v x (first + 1) n) (none_below (first + 1) n first (omega arith)))
     | inr other ↦
-      at_other first pid (v.processes first) (fates_from v x (first + 1) n) other ∙ among (first + 1) n pid (grind (arith, nat_tests)) (omega arith)
+        at_other first pid (v.processes first) (fates_from v x (first + 1) n) other ∙ among (first + 1) n pid (grind (arith, nat_tests)) (omega arith)
   ]
 
   all_above : (least first n : ℕ) → least < first → All (λ (told : ℕ × Fate). least < told.0) (fates_from v x first n)
