@@ -16,7 +16,7 @@ use Rattle.record_layouts.specs.Unix.Turn.{ending_of}
 use Rattle.record_layouts.specs.Unix.Traps.{after_trap, closing_of, next_trap}
 use Rattle.record_layouts.specs.Unix.Broken.{done_of, undone_of}
 use Rattle.record_layouts.specs.Unix.Wounds.{Wounds, no_wounds}
-use Rattle.record_layouts.specs.Unix.Abort.{abort, bits_lost, brought_out, call_at, exit_after, fate_of, fate_of_call, is_closed, is_made_again, is_one, is_open_on, is_undone_caller, fate_before, fate_in, fates, fates_from, kept_by, passes, status_by_fate, survivor, unless_closed}
+use Rattle.record_layouts.specs.Unix.Abort.{abort, bits_lost, brought_out, call_at, exit_after, fate_of, fate_of_call, is_closed, is_made_again, has_passing, is_open_on, is_undone_caller, fate_before, fate_in, fates, fates_from, kept_by, passes, status_by_fate, survivor, unless_closed}
 use Rattle.record_layouts.specs.declared.fates.Fate.{Fate}
 use Rattle.record_layouts.specs.declared.fates.Fate.TheVariants as fate
 use Rattle.record_layouts.specs.declared.traps.Trap.{Trap}
@@ -35,8 +35,8 @@ module _ (v : Unix) where
   not_closed (Some number) = none_passes (v.descriptions number)
   not_closed None = refl
 
-  none_is : (test : Option ℕ → Bool) → ((d : Option ℕ) → test d ≡ false) → (ds : List (Option ℕ)) → is_one test ds ≡ false
-  unfolding is_one
+  none_is : (test : Option ℕ → Bool) → ((d : Option ℕ) → test d ≡ false) → (ds : List (Option ℕ)) → has_passing test ds ≡ false
+  unfolding has_passing
   none_is test never [] = refl
   none_is test never (d ∷ ds) = rw (never d) (none_is test never ds)
 
