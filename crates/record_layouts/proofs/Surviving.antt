@@ -16,7 +16,7 @@ use Rattle.record_layouts.specs.Unix.Turn.{ending_of}
 use Rattle.record_layouts.specs.Unix.Traps.{after_trap, closing_of, next_trap}
 use Rattle.record_layouts.specs.Unix.Broken.{done_of, undone_of}
 use Rattle.record_layouts.specs.Unix.Wounds.{Wounds, no_wounds}
-use Rattle.record_layouts.specs.Unix.Abort.{abort, bits_lost, brought_out, call_at, exit_after, fate_of, fate_of_call, is_closed, is_made_again, has_passing, is_open_on, is_undone_caller, fate_before, fate_in, fates, fates_from, kept_by, passes, status_by_fate, survivor, unless_closed}
+use Rattle.record_layouts.specs.Unix.Abort.{abort, bits_lost, bits_of, brought_out, call_at, exit_after, fate_of, fate_of_call, is_closed, is_made_again, has_passing, is_open_on, is_undone_caller, fate_before, fate_in, fates, fates_from, kept_by, passes, status_by_fate, survivor, unless_closed}
 use Rattle.record_layouts.specs.declared.fates.Fate.{Fate}
 use Rattle.record_layouts.specs.declared.fates.Fate.TheVariants as fate
 use Rattle.record_layouts.specs.declared.traps.Trap.{Trap}
@@ -131,6 +131,44 @@ module _ (v : Unix) where
   pub exits_stay : (pid : ℕ) (o : Option Process) → exit_after v (no_wounds v) pid o ≡ v.exits pid
   exits_stay pid (Some p) = status_kept pid p
   exits_stay pid None = refl
+
+-- a process of which nothing is wounded
+module _ (v : Unix) (x : Wounds) (pid : ℕ) (p : Process) where
+  module _ (none : bits_lost v x pid p ≡ 0) where
+    none_closed : has_passing (is_closed v x) p.descriptors ≡ false
+    unfolding bits_lost
+    none_closed = elim (cases_Bool (has_passing (is_closed v x) p.descriptors)) [
+      | inl some ↦ absurd (grind (arith, some, none))
+      | inr not_one ↦ not_one
+    ]
+
+    has_signals : x.sigs pid ≡ false
+    unfolding bits_lost
+    has_signals = elim (cases_Bool (x.sigs pid)) [
+      | inl lost ↦ absurd (grind (arith, lost, none))
+      | inr kept ↦ kept
+    ]
+
+  all_open : (ds : List (Option ℕ)) → has_passing (is_closed v x) ds ≡ false → map (unless_closed v x) ds ≡ ds
+  unfolding has_passing
+  all_open [] none = refl
+  all_open (d ∷ ds) none = elim (cases_Bool (is_closed v x d)) [
+    | inl closed ↦ let some : true ≡ false = rw closed at none in absurd (cc some)
+    | inr kept ↦ rw (kept, all_open ds (rw kept at none)) refl
+  ]
+
+  module _ (live : v.processes pid ≡ Some p) (readable : x.core pid ≡ false) (none : bits_lost v x pid p ≡ 0) where
+    pub untouched_fate : fate_of v x pid p ≡ fate_of v (no_wounds v) pid p
+    unfolding fate_of bits_of no_wounds
+    untouched_fate = rw (readable, none, none_lost v pid p) refl
+
+    untouched_out : x.pages pid ≡ p.pages.bytes → brought_out v x pid p ≡ brought_out v (no_wounds v) pid p
+    unfolding brought_out no_wounds
+    untouched_out bytes = rw (bytes, has_signals none, all_open p.descriptors (none_closed none), kept_open v p.descriptors, live) refl
+
+    pub untouched : x.pages pid ≡ p.pages.bytes → (abort v x).processes pid ≡ (abort v (no_wounds v)).processes pid
+    unfolding abort
+    untouched bytes = rw (live, untouched_fate, untouched_out bytes) refl
 
 -- a process that a trap has left outside a call
 pub done_same : (u : Unix) (t : Trap) (pid : ℕ) (p : Process) → (after_trap u t).processes pid ≡ Some p → p.call ≡ Out → p.procedure ≡ 0 → 1 ≤ pid
