@@ -122,9 +122,9 @@ piece_alike u pid p number done Out is = absurd (cc is)
 piece_alike u pid p number done (In n d) is =
     let v = trapped u pid in
     if_alike v (piece_on v pid p d (description_of v p (argument p 0))) v (n == 2) (on (description_of v p (argument p 0))) (record { steps = refl; traps = refl; last = refl }) where
-  on : (o : Option Description) → AreAlike (trapped u pid) (piece_on (trapped u pid) pid p d o)
-  on (Some o) = write_alike (trapped u pid) pid p d o.object
-  on None = record { steps = refl; traps = refl; last = refl }
+      on : (o : Option Description) → AreAlike (trapped u pid) (piece_on (trapped u pid) pid p d o)
+      on (Some o) = write_alike (trapped u pid) pid p d o.object
+      on None = record { steps = refl; traps = refl; last = refl }
 
 of_piece : (u : Unix) (pid number done : ℕ) (p : Process) → u.processes pid ≡ Some p → p.call ≡ In number done → Counts (trap.Piece pid) u (after_trap u (trap.Piece pid))
 unfolding after_trap piece_of
@@ -237,10 +237,12 @@ module _ (keys : Keys) (quantum : ℕ) (u : Unix) (t : Trap) where
       let there : None ≡ Some t = subst (λ (x : Position). trap_at keys quantum u x ≡ Some t) at (subst (λ (x : Unix). trap_at keys quantum x x.position ≡ Some t) same is) in
       absurd (cc there)
 
+pub turn_counts : (keys : Keys) (shape : Shape) (u : Unix) (t : Trap) → trap_of_turn keys shape u ≡ Some t → Counts t (settled keys u) (after_trap (settled keys u) t)
+unfolding trap_of_turn settled
+turn_counts keys shape u t is = of_position keys shape.quantum u t u.position refl (settled keys u) refl is
+
 -- so a trap that was broken when it was done differs from the trap in the position alone
 pub done_is : (keys : Keys) (shape : Shape) (u : Unix) (t : Trap) → trap_of_turn keys shape u ≡ Some t
     → done_of t (settled keys u) ≡ record (after_trap (settled keys u) t) { position = AtPanic 0 }
-unfolding done_of trap_of_turn settled
-done_is keys shape u t is =
-    let counts = of_position keys shape.quantum u t u.position refl (settled keys u) refl is in
-    rw (counts.steps, counts.traps, counts.last) refl
+unfolding done_of
+done_is keys shape u t is = let counts = turn_counts keys shape u t is in rw (counts.steps, counts.traps, counts.last) refl

@@ -2,6 +2,7 @@
 pub mod Counting
 pub mod Putting
 pub mod OneRun
+pub mod Coming
 pub mod Quiet
 pub mod Running
 pub mod Worked

@@ -6,12 +6,12 @@ use Rattle.record_layouts.specs.Unix.Wounds.{Wounds, no_wounds}
 use Rattle.record_layouts.specs.Unix.Abort.{abort, fates}
 use Rattle.record_layouts.specs.declared.fates.Fate.{Fate}
 
--- descriptions 0 and 1 are on terminals 0 and 1, and 2, 3 and 4 on files 0, 1 and 2
+-- descriptions 0 and 1 are on terminals 0 and 1, 2, 3 and 4 on files 0, 1 and 2, and 5 is on terminal 1 too
 abbrev pub on_object : Object → Description
 on_object object = record { object = object; reads = true; writes = true; offset = 0 }
 
 unfoldable pub mixed_descriptions : List Description
-mixed_descriptions = on_object (OnTty 0) ∷ on_object (OnTty 1) ∷ on_object (OnFile 0) ∷ on_object (OnFile 1) ∷ on_object (OnFile 2) ∷ []
+mixed_descriptions = on_object (OnTty 0) ∷ on_object (OnTty 1) ∷ on_object (OnFile 0) ∷ on_object (OnFile 1) ∷ on_object (OnFile 2) ∷ on_object (OnTty 1) ∷ []
 
 -- registers of which a0 and a7 are not 0
 abbrev pub bank_with : (pc a0 a7 : ℕ) → Bank
@@ -33,12 +33,12 @@ process_on description call procedure save a7 = record {
   parent = 0;
 }
 
--- the caller of an open, a reader whose procedure runs, processes on three files that are lost in three ways, one whose
--- signals are lost, one that is lost itself, one with a procedure on a lost terminal, one in a wait, and one of which
--- nothing is lost
+-- the caller of an open, a reader whose procedure runs, one on a lost file, one whose two descriptions are lost, one on a
+-- file with a lost page, one whose signals are lost, one that is lost itself, one with a procedure on a lost terminal, one
+-- in a wait, and one of which nothing is lost
 unfoldable pub mixed_processes : List Process
 mixed_processes = process_on 0 Out 0 None 4 ∷ process_on 0 (In 3 0) 0x10020 (Some (bank_with 0x10030 6 7, 2)) 3 ∷ process_on 2 Out 0 None 0
-    ∷ process_on 3 Out 0 None 0 ∷ process_on 4 Out 0 None 0 ∷ process_on 0 Out 0 None 0 ∷ process_on 0 Out 0 None 0
+    ∷ record (process_on 3 Out 0 None 0) { descriptors = Some 3 ∷ Some 5 ∷ replicate 6 None } ∷ process_on 4 Out 0 None 0 ∷ process_on 0 Out 0 None 0 ∷ process_on 0 Out 0 None 0
     ∷ process_on 1 Out 0x10020 None 0 ∷ process_on 0 (In 10 0) 0 None 10 ∷ process_on 0 Out 0 None 1 ∷ []
 
 -- three ended children, the first two of process 1 and the last of process 3
@@ -66,9 +66,9 @@ unfoldable pub mixed_wounds : Wounds
 mixed_wounds = record (no_wounds mixed) {
   core = λ pid. pid == 7;
   gone = λ pid. pid == 11;
-  descs = λ number. number == 3;
+  descs = λ number. number == 3 || number == 5;
   reset = λ file. file == 0;
-  paged = λ file. file == 0 || file == 2;
+  paged = λ file. true;
   ttys = λ tty. if tty == 1 then Some (record { tape = 65 ∷ []; arrived = 2 }) else None;
   sigs = λ pid. pid == 6;
 }

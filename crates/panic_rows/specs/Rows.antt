@@ -1,5 +1,5 @@
 -- Worked worlds with panics, the states that their panics leave, and their reports.
-use Rattle.std.specs.Prelude.{ℕ, zero, suc, ◌==◌, if◌then◌else◌, List, [], ◌∷◌, ◌++◌, replicate, codes, true, false, Option, Some, None}
+use Rattle.std.specs.Prelude.{ℕ, zero, suc, ◌==◌, if◌then◌else◌, List, [], ◌∷◌, ◌++◌, replicate, codes, true, false, Some, None}
 use Rattle.ow_base.specs.declared.machine.AreaId.TheVariants as area
 use Rattle.ow_base.specs.declared.machine.Shape.{Shape}
 use Rattle.ow_base.specs.declared.worlds.World.{World}
@@ -214,6 +214,19 @@ loop_closing_end = closed (revived loop_closing_left)
 
 unfoldable pub loop_closing_report : List ℕ
 loop_closing_report = codes "otherworld 1\nending budget\nsteps 10\ntraps 2\npanic 1 0 store pid 1\ngoes 1\nlive 1\ntty 0 0\nscreen 0 0 0\ntty 1 0\nscreen 1 0 0\nend\n"
+
+-- the same where the run ends before the loop is chosen: the closing trap is of none
+unfoldable pub loop_at_once : World
+loop_at_once = world_of 100 0 (program (0x0000006f ∷ []) [] ∷ []) (start_on 0 0 ∷ []) (panic_at 1 0 ∷ [])
+
+unfoldable pub loop_at_once_left : Unix
+loop_at_once_left = left_undone (trap.Closing None) (start_of loop_at_once.load)
+
+unfoldable pub loop_at_once_end : Unix
+loop_at_once_end = closed (revived loop_at_once_left)
+
+unfoldable pub loop_at_once_report : List ℕ
+loop_at_once_report = codes "otherworld 1\nending budget\nsteps 0\ntraps 2\npanic 1 0 store pid 0\ngoes 1\nlive 1\ntty 0 0\nscreen 0 0 0\ntty 1 0\nscreen 1 0 0\nend\n"
 
 unfoldable pub loop_twice : World
 loop_twice = loop_with (panic_at 1 0 ∷ (panic_at 2 0 ∷ []))

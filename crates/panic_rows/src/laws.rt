@@ -1,9 +1,10 @@
 //! What holds of broken traps and of runs with panics.
 
-ghost use Rattle.std.specs.Prelude.{◌≡◌, ◌+◌, ℕ, List, ◌++◌, take, [], if◌then◌else◌, true, Some};
+ghost use Rattle.std.specs.Prelude.{◌≡◌, ◌+◌, ◌≤◌, ℕ, List, ◌++◌, take, [], if◌then◌else◌, true, Some, is_some};
 ghost use Rattle.ow_base.specs.declared.machine.Shape.{Shape};
 ghost use Rattle.ow_base.specs.declared.worlds.World.{World};
 ghost use Rattle.ow_base.specs.declared.worlds.Ending.{Ending};
+ghost use Rattle.ow_base.specs.declared.worlds.PanicLine.{PanicLine};
 ghost use Rattle.ow_base.specs.declared.worlds.PanicRecord.{PanicRecord};
 ghost use Rattle.ow_base.specs.Pages.{bytes_at, is_readable};
 ghost use Rattle.record_layouts.specs.Unix.State.{Unix, Process, Description, In, OnTty, AtPanic};
@@ -11,10 +12,10 @@ ghost use Rattle.record_layouts.specs.Unix.Choice.{no_keys, settled};
 ghost use Rattle.record_layouts.specs.Unix.Calls.{argument, description_of, tty_piece};
 ghost use Rattle.record_layouts.specs.Unix.Traps.{after_trap, came_of, caller_of, or_zero, pid_of, steps_in, trap_of_turn};
 ghost use Rattle.record_layouts.specs.Unix.Broken.{IsBroken, done_of, partly_put};
-ghost use Rattle.record_layouts.specs.Unix.Panics.{Images, RunWith};
+ghost use Rattle.record_layouts.specs.Unix.Panics.{Images, IsAtPoint, RunWith, line_for};
 ghost use Rattle.record_layouts.specs.Unix.Run.{Run};
 ghost use Rattle.record_layouts.specs.Unix.Report.{report_of};
-ghost use Rattle.record_layouts.specs.Unix.PanicReport.{report_with};
+ghost use Rattle.record_layouts.specs.Unix.PanicReport.{entry_for, report_with};
 ghost use Rattle.record_layouts.specs.Left.{is_by_call};
 ghost use Rattle.record_layouts.specs.declared.fates.Fate.{Fate};
 ghost use Rattle.record_layouts.specs.declared.traps.Trap.{Trap};
@@ -38,6 +39,17 @@ pub const fn no_panics_change_nothing()
     ensures history { (world : World) (images : Images) (history : List PanicRecord) (told : List (List (ℕ × Fate))) (ending : Ending) (w : Unix) →
         world.panics ≡ [] → RunWith world images history told ending w → (history ≡ []) × (told ≡ []) }
     ensures report { (ending : Ending) (w : Unix) → report_with [] [] [] ending w ≡ report_of ending w }
+{}
+
+/// Each panic that is listed for a trap which the run reaches comes: the history has an entry of it. No other one comes,
+/// and each comes at its point.
+pub const fn listed_panics_come()
+    ensures come { (world : World) (images : Images) (history : List PanicRecord) (told : List (List (ℕ × Fate))) (ending : Ending) (w : Unix)
+        (number : ℕ) (line : PanicLine) → RunWith world images history told ending w → line_for world.panics number ≡ Some line →
+        1 ≤ number → number ≤ w.traps → is_some (entry_for history number) ≡ true }
+    ensures others { (world : World) (images : Images) (history : List PanicRecord) (told : List (List (ℕ × Fate))) (ending : Ending) (w : Unix)
+        (number : ℕ) (r : PanicRecord) → RunWith world images history told ending w → entry_for history number ≡ Some r →
+        (line : PanicLine) × (line_for world.panics number ≡ Some line) × (r.listed ≡ line.store) × IsAtPoint line.store r }
 {}
 
 /// What a broken trap leaves counts it, and where the trap was done it is what the trap makes, but for the position.

@@ -6,8 +6,8 @@ mod laws;
 mod rows;
 
 pub use laws::{
-    broken_traps_are_counted, hand_overs_name_callers, no_panics_change_nothing, one_run,
-    pieces_are_put_in_order,
+    broken_traps_are_counted, hand_overs_name_callers, listed_panics_come,
+    no_panics_change_nothing, one_run, pieces_are_put_in_order,
 };
 pub use rows::{
     calls_are_told, closing_panic_runs, damaged_byte_runs, exit_panic_runs, fates_are_told,

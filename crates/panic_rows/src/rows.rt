@@ -9,7 +9,7 @@ ghost use Rattle.record_layouts.specs.Unix.Abort.{fates};
 ghost use Rattle.record_layouts.specs.Unix.Panics.{Images, RunWith};
 ghost use Rattle.record_layouts.specs.Unix.PanicReport.{panic_lines, report_with, unused_lines};
 ghost use Rattle.record_layouts.specs.declared.fates.Fate.TheVariants as fate;
-ghost use Rattle.panic_rows.specs.Rows.{after, at_leave, at_store, byte_damage, byte_hurt, damaged_at, exit_closing, exit_closing_end, exit_closing_left, exit_closing_report, exit_first, exit_first_end, exit_first_left, exit_first_report, exit_leave, exit_leave_end, exit_leave_left, exit_leave_report, exit_unused, exit_unused_report, head_damage, head_lost, hi_first, hi_first_end, hi_first_left, hi_first_report, hi_hurt, hi_hurt_end, hi_hurt_left, hi_hurt_report, hi_leave, hi_leave_end, hi_leave_left, hi_leave_report, hi_lost, hi_lost_end, hi_lost_left, hi_lost_report, hi_mid, hi_mid_end, hi_mid_left, hi_mid_report, loop_closing, loop_closing_end, loop_closing_left, loop_closing_report, loop_twice, loop_twice_end, loop_twice_left, loop_twice_left_again, loop_twice_report, retried, retried_history, retried_panics, retried_unused, revived, scroll_end, scroll_leave, scroll_leave_end, scroll_leave_left, scroll_leave_report, second_damage, second_lost, three_hi, three_hi_end, three_hi_left, three_hi_report, writers, writers_end, writers_left, writers_report};
+ghost use Rattle.panic_rows.specs.Rows.{after, at_leave, at_store, byte_damage, byte_hurt, damaged_at, exit_closing, exit_closing_end, exit_closing_left, exit_closing_report, exit_first, exit_first_end, exit_first_left, exit_first_report, exit_leave, exit_leave_end, exit_leave_left, exit_leave_report, exit_unused, exit_unused_report, head_damage, head_lost, hi_first, hi_first_end, hi_first_left, hi_first_report, hi_hurt, hi_hurt_end, hi_hurt_left, hi_hurt_report, hi_leave, hi_leave_end, hi_leave_left, hi_leave_report, hi_lost, hi_lost_end, hi_lost_left, hi_lost_report, hi_mid, hi_mid_end, hi_mid_left, hi_mid_report, loop_at_once, loop_at_once_end, loop_at_once_left, loop_at_once_report, loop_closing, loop_closing_end, loop_closing_left, loop_closing_report, loop_twice, loop_twice_end, loop_twice_left, loop_twice_left_again, loop_twice_report, retried, retried_history, retried_panics, retried_unused, revived, scroll_end, scroll_leave, scroll_leave_end, scroll_leave_left, scroll_leave_report, second_damage, second_lost, three_hi, three_hi_end, three_hi_left, three_hi_report, writers, writers_end, writers_left, writers_report};
 ghost use Rattle.panic_rows.specs.Mixed.{bank_at, bank_with, calling, descriptors_at, fates_of_call, handlers_at, mixed, mixed_revived, mixed_wounds, save_at};
 
 /// A panic at the first store of the write of hi: the call is aborted, and the program goes on to its exit.
@@ -65,8 +65,8 @@ pub const fn exit_panic_runs()
     ensures last_report { report_with exit_leave.panics (at_leave 1 311 999999 1 ∷ []) ([] ∷ []) ending.Done exit_leave_end ≡ exit_leave_report }
 {}
 
-/// A panic at the closing trap, of no process and of one in user mode, one that does not come, and one at each of two
-/// closing traps, of which the second is of no process.
+/// A panic at the closing trap: of no process, of one in user mode, and of none where the run ends before one is chosen;
+/// one that does not come; and one at each of two closing traps, of which the second is of no process.
 pub const fn closing_panic_runs()
     ensures none_run { (images : Images) → images.state (at_store 2 0 0) 3 2 ≡ exit_closing_left → images.wounds (at_store 2 0 0) ≡ no_wounds exit_closing_left
         → RunWith exit_closing images (at_store 2 0 0 ∷ []) ([] ∷ []) ending.Done exit_closing_end }
@@ -78,6 +78,10 @@ pub const fn closing_panic_runs()
         → RunWith loop_closing images (at_store 1 0 1 ∷ []) (((1, fate.Goes) ∷ []) ∷ []) ending.Budget loop_closing_end }
     ensures user { (loop_closing_end.steps ≡ 10) × (loop_closing_end.traps ≡ 2) }
     ensures user_report { report_with loop_closing.panics (at_store 1 0 1 ∷ []) (((1, fate.Goes) ∷ []) ∷ []) ending.Budget loop_closing_end ≡ loop_closing_report }
+    ensures at_once_run { (images : Images) → images.state (at_store 1 0 0) 0 1 ≡ loop_at_once_left → images.wounds (at_store 1 0 0) ≡ no_wounds loop_at_once_left
+        → RunWith loop_at_once images (at_store 1 0 0 ∷ []) (((1, fate.Goes) ∷ []) ∷ []) ending.Budget loop_at_once_end }
+    ensures at_once { (loop_at_once_left.last_pid ≡ 0) × (loop_at_once_end.last_pid ≡ 0) }
+    ensures at_once_report { report_with loop_at_once.panics (at_store 1 0 0 ∷ []) (((1, fate.Goes) ∷ []) ∷ []) ending.Budget loop_at_once_end ≡ loop_at_once_report }
     ensures twice_run { (images : Images) → images.state (at_store 1 0 1) 10 1 ≡ loop_twice_left → images.wounds (at_store 1 0 1) ≡ no_wounds loop_twice_left
         → images.state (at_store 2 0 0) 10 2 ≡ loop_twice_left_again → images.wounds (at_store 2 0 0) ≡ no_wounds loop_twice_left_again
         → RunWith loop_twice images (at_store 1 0 1 ∷ at_store 2 0 0 ∷ []) (((1, fate.Goes) ∷ []) ∷ ((1, fate.Goes) ∷ []) ∷ []) ending.Budget loop_twice_end }

@@ -1,6 +1,6 @@
 -- What a panic that wounds nothing makes of processes.
 use Rattle.std.proofs.Common.{◌≡◌, ◌∙◌, ◌+◌, ◌≤◌, ◌==◌, ℕ, zero, suc, Bool, true, false, List, [], ◌∷◌, Option, Some, None, inl, inr, refl, sym, ap, subst, arith}
-use Rattle.std.specs.Prelude.{◌<◌, map, not, is_some, option_map}
+use Rattle.std.specs.Prelude.{◌<◌, map, is_some, option_map}
 use Rattle.std.specs.List.{All, AllPairs}
 use Rattle.std.proofs.lemmas.List.Elements.{All-cons, All-nil}
 use Rattle.std.proofs.lemmas.List.Kept.{AllPairs-cons}
@@ -16,7 +16,7 @@ use Rattle.record_layouts.specs.Unix.Turn.{ending_of}
 use Rattle.record_layouts.specs.Unix.Traps.{after_trap, closing_of, next_trap}
 use Rattle.record_layouts.specs.Unix.Broken.{done_of, undone_of}
 use Rattle.record_layouts.specs.Unix.Wounds.{Wounds, no_wounds}
-use Rattle.record_layouts.specs.Unix.Abort.{abort, bits_lost, bits_of, brought_out, call_at, exit_after, fate_of, fate_of_call, is_closed, is_made_again, is_one, is_open_on, is_undone_caller, fate_before, fate_in, fates, fates_from, kept_by, passes, status_by_fate, survivor, unless_closed}
+use Rattle.record_layouts.specs.Unix.Abort.{abort, bits_lost, bits_of, brought_out, call_at, exit_after, fate_of, fate_of_call, is_closed, is_made_again, has_passing, is_open_on, is_undone_caller, fate_before, fate_in, fates, fates_from, kept_by, passes, status_by_fate, survivor, unless_closed}
 use Rattle.record_layouts.specs.declared.fates.Fate.{Fate}
 use Rattle.record_layouts.specs.declared.fates.Fate.TheVariants as fate
 use Rattle.record_layouts.specs.declared.traps.Trap.{Trap}
@@ -35,8 +35,8 @@ module _ (v : Unix) where
   not_closed (Some number) = none_passes (v.descriptions number)
   not_closed None = refl
 
-  none_is : (test : Option ℕ → Bool) → ((d : Option ℕ) → test d ≡ false) → (ds : List (Option ℕ)) → is_one test ds ≡ false
-  unfolding is_one
+  none_is : (test : Option ℕ → Bool) → ((d : Option ℕ) → test d ≡ false) → (ds : List (Option ℕ)) → has_passing test ds ≡ false
+  unfolding has_passing
   none_is test never [] = refl
   none_is test never (d ∷ ds) = rw (never d) (none_is test never ds)
 
@@ -132,6 +132,44 @@ module _ (v : Unix) where
   exits_stay pid (Some p) = status_kept pid p
   exits_stay pid None = refl
 
+-- a process of which nothing is wounded
+module _ (v : Unix) (x : Wounds) (pid : ℕ) (p : Process) where
+  module _ (none : bits_lost v x pid p ≡ 0) where
+    none_closed : has_passing (is_closed v x) p.descriptors ≡ false
+    unfolding bits_lost
+    none_closed = elim (cases_Bool (has_passing (is_closed v x) p.descriptors)) [
+      | inl some ↦ absurd (grind (arith, some, none))
+      | inr not_one ↦ not_one
+    ]
+
+    has_signals : x.sigs pid ≡ false
+    unfolding bits_lost
+    has_signals = elim (cases_Bool (x.sigs pid)) [
+      | inl lost ↦ absurd (grind (arith, lost, none))
+      | inr kept ↦ kept
+    ]
+
+  all_open : (ds : List (Option ℕ)) → has_passing (is_closed v x) ds ≡ false → map (unless_closed v x) ds ≡ ds
+  unfolding has_passing
+  all_open [] none = refl
+  all_open (d ∷ ds) none = elim (cases_Bool (is_closed v x d)) [
+    | inl closed ↦ let some : true ≡ false = rw closed at none in absurd (cc some)
+    | inr kept ↦ rw (kept, all_open ds (rw kept at none)) refl
+  ]
+
+  module _ (live : v.processes pid ≡ Some p) (readable : x.core pid ≡ false) (none : bits_lost v x pid p ≡ 0) where
+    pub untouched_fate : fate_of v x pid p ≡ fate_of v (no_wounds v) pid p
+    unfolding fate_of bits_of no_wounds
+    untouched_fate = rw (readable, none, none_lost v pid p) refl
+
+    untouched_out : x.pages pid ≡ p.pages.bytes → brought_out v x pid p ≡ brought_out v (no_wounds v) pid p
+    unfolding brought_out no_wounds
+    untouched_out bytes = rw (bytes, has_signals none, all_open p.descriptors (none_closed none), kept_open v p.descriptors, live) refl
+
+    pub untouched : x.pages pid ≡ p.pages.bytes → (abort v x).processes pid ≡ (abort v (no_wounds v)).processes pid
+    unfolding abort
+    untouched bytes = rw (live, untouched_fate, untouched_out bytes) refl
+
 -- a process that a trap has left outside a call
 pub done_same : (u : Unix) (t : Trap) (pid : ℕ) (p : Process) → (after_trap u t).processes pid ≡ Some p → p.call ≡ Out → p.procedure ≡ 0 → 1 ≤ pid
     → (abort (done_of t u) (no_wounds (done_of t u))).processes pid ≡ Some p
@@ -155,7 +193,7 @@ module _ (shape : Shape) (u v : Unix) (ending : Ending) (ends : ending_of shape 
   still_ends =
       let live : is_any_live (λ pid. survivor v (no_wounds v) pid (v.processes pid)) 1 most_pids ≡ is_any_live u.processes 1 most_pids =
       same_live (λ pid. survivor v (no_wounds v) pid (v.processes pid)) v.processes (λ pid. survives v pid (v.processes pid)) 1 most_pids
-          ∙ ap (λ (s : Unix). is_any_live s.processes 1 most_pids) left in
+      ∙ ap (λ (s : Unix). is_any_live s.processes 1 most_pids) left in
       let steps : v.steps ≡ u.steps = ap (λ (s : Unix). s.steps) left ∙ omega arith in
       rw (live, steps) ends
 
@@ -207,11 +245,11 @@ module _ (v : Unix) (x : Wounds) where
   among first zero pid above below = absurd (omega arith)
   among first (suc n) pid above below = elim (cases_Bool (first == pid)) [
     | inl same ↦
-      let is : first ≡ pid = grind (arith, nat_tests) in
-      subst (λ q. fate_in (fates_from v x first (suc n)) q ≡ option_map (λ p. fate_of v x q p) (v.processes q)) is
-      (at_one first (v.processes first) (fates_from v x (first + 1) n) (none_below (first + 1) n first (omega arith)))
+        let is : first ≡ pid = grind (arith, nat_tests) in
+        subst (λ q. fate_in (fates_from v x first (suc n)) q ≡ option_map (λ p. fate_of v x q p) (v.processes q)) is
+        (at_one first (v.processes first) (fates_from v x (first + 1) n) (none_below (first + 1) n first (omega arith)))
     | inr other ↦
-      at_other first pid (v.processes first) (fates_from v x (first + 1) n) other ∙ among (first + 1) n pid (grind (arith, nat_tests)) (omega arith)
+        at_other first pid (v.processes first) (fates_from v x (first + 1) n) other ∙ among (first + 1) n pid (grind (arith, nat_tests)) (omega arith)
   ]
 
   all_above : (least first n : ℕ) → least < first → All (λ (told : ℕ × Fate). least < told.0) (fates_from v x first n)

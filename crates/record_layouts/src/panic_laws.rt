@@ -15,7 +15,7 @@ ghost use Rattle.record_layouts.specs.Unix.Turn.{ending_of};
 ghost use Rattle.record_layouts.specs.Unix.Traps.{after_trap, closing_of, next_trap};
 ghost use Rattle.record_layouts.specs.Unix.Broken.{done_of, undone_of};
 ghost use Rattle.record_layouts.specs.Unix.Wounds.{Wounds, no_wounds};
-ghost use Rattle.record_layouts.specs.Unix.Abort.{abort, call_at, fate_in, fate_of, fates, is_made_again, is_undone_caller};
+ghost use Rattle.record_layouts.specs.Unix.Abort.{abort, bits_lost, call_at, fate_in, fate_of, fates, is_made_again, is_undone_caller};
 ghost use Rattle.record_layouts.specs.Unix.Panics.{Due, Images, IsPanicEntry, RunsWith, due_at, state_left};
 ghost use Rattle.record_layouts.specs.Unix.PanicReport.{panic_line};
 ghost use Rattle.record_layouts.specs.declared.fates.Fate.{Fate};
@@ -44,6 +44,13 @@ pub const fn calls_are_undone()
         is_made_again number ≡ false → (fate_of v (no_wounds v) pid p ≡ fate.Aborted)
         × ((abort v (no_wounds v)).processes pid
         ≡ Some (record p { call = Out; bank = record { pc = wrapped (p.bank.pc + 4); regs = with_register p.bank.regs 10 (minus 200) } })) }
+{}
+
+/// A process of which nothing is wounded fares as if nothing were.
+pub const fn untouched_processes_survive()
+    ensures { (v : Unix) (x : Wounds) (pid : ℕ) (p : Process) → v.processes pid ≡ Some p → x.core pid ≡ false → bits_lost v x pid p ≡ 0 →
+        x.pages pid ≡ p.pages.bytes → (fate_of v x pid p ≡ fate_of v (no_wounds v) pid p)
+        × ((abort v x).processes pid ≡ (abort v (no_wounds v)).processes pid) }
 {}
 
 /// Where nothing is wounded, a panic changes processes alone: files, terminals, exits, pids and counts stay.
