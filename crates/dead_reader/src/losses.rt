@@ -4,10 +4,7 @@ ghost use Rattle.record_layouts.specs.Desc.{FitsDesc};
 ghost use Rattle.dead_reader.specs.Losses.{bit_if, bits_lost, loses, loses_by, may_lack_page, names_file, one_loses};
 
 use crate::terminals::terminal_decodes;
-use record_layouts::{DescRec, RecordView};
-
-// The entries of the cache.
-const ENTRIES: u32 = 64;
+use record_layouts::{CACHE_ENTRIES, DescRec, RecordView};
 
 // What a description is open on: a file or a terminal.
 const FILE: u32 = 1;
@@ -58,7 +55,7 @@ fn may_lack_page<V: RecordView>(view: &V, file: u32) -> bool
     requires { file < 32 }
     ensures { result ≡ may_lack_page (V.records view.now) file }
 {
-    for entry in 0..ENTRIES {
+    for entry in 0..CACHE_ENTRIES {
         if view.cache(entry).is_none() && names_file(file, view.cache_owner(entry)) {
             return true;
         }

@@ -13,10 +13,7 @@ ghost use Rattle.dead_reader.specs.Processes.{IsDead, IsDecoded, IsUnreadable};
 use crate::left::dead_process;
 use frame_table::{frame_of_page, has_tables, pages};
 use ow_plant::HandOver;
-use record_layouts::{DeadProc, ProcRec, RecordId, RecordView};
-
-// Past the last pid.
-const PIDS_END: u32 = 257;
+use record_layouts::{CODE_PAGE, DeadProc, PIDS_END, ProcRec, RecordId, RecordView, STACK_PAGE, STACK_PAGES};
 
 // The state of an exit record whose pid is live.
 const LIVE: u32 = 1;
@@ -31,13 +28,6 @@ const IN_CALL: u32 = 2;
 const RECORD: u32 = 0;
 
 const ROOT: u32 = 1;
-
-// The first page of code, the first of the stack, and how many pages the stack has.
-const CODE_START: u32 = 16;
-
-const STACK_START: u32 = 0x7_fffc;
-
-const STACK_PAGES: u32 = 4;
 
 /// The first part of a process that cannot be read.
 ///
@@ -124,9 +114,9 @@ fn page_without_frame<V: RecordView>(view: &V, slot: u32, rec: &ProcRec) -> Opti
     ensures none { IfNone result (has_tables (V.records view.now) slot ≡ true → is_mapped (V.records view.now) slot rec.now ≡ true) }
 {
     let below_stack = pages(rec) - STACK_PAGES;
-    match first_without_frame(view, slot, rec, CODE_START, below_stack) {
+    match first_without_frame(view, slot, rec, CODE_PAGE, below_stack) {
         Some(page) => Some(page),
-        None => first_without_frame(view, slot, rec, STACK_START, STACK_PAGES),
+        None => first_without_frame(view, slot, rec, STACK_PAGE, STACK_PAGES),
     }
 }
 

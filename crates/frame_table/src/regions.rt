@@ -5,18 +5,10 @@ ghost use Rattle.record_layouts.specs.Pages.{heap_pages, is_live, page_total, re
 ghost use Rattle.record_layouts.specs.Proc.{FitsProc};
 
 use ow_base::Rights;
-use record_layouts::ProcRec;
+use record_layouts::{CODE_PAGE, ProcRec, STACK_PAGE, STACK_PAGES};
 
 // The bytes of a page.
 const PAGE: u32 = 4096;
-
-// The first page of code.
-const CODE_START: u32 = 16;
-
-// The first page of the stack, and how many pages it has.
-const STACK_START: u32 = 0x7_fffc;
-
-const STACK_PAGES: u32 = 4;
 
 // The process goes on: it is outside a call or in one.
 fn is_live(rec: &ProcRec) -> bool
@@ -58,13 +50,13 @@ pub fn region(rec: &ProcRec, page: u32) -> Option<Rights>
     if !is_live(rec) {
         return None;
     }
-    let values_start = CODE_START + rec.code_pages;
+    let values_start = CODE_PAGE + rec.code_pages;
     let values_end = values_start + rec.data_pages + heap_pages(rec);
-    if (CODE_START..values_start).contains(&page) {
+    if (CODE_PAGE..values_start).contains(&page) {
         return Some(Rights::Code);
     }
     let is_of_values = (values_start..values_end).contains(&page)
-        || (STACK_START..STACK_START + STACK_PAGES).contains(&page);
+        || (STACK_PAGE..STACK_PAGE + STACK_PAGES).contains(&page);
     if is_of_values {
         Some(Rights::Values)
     } else {

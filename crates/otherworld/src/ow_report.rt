@@ -11,13 +11,10 @@ use intent_store::live_records;
 use itoa::Buffer;
 use ow_base::{Ending, Failed, Sink, put_all, put_escaped};
 use ow_plant::{Display, Plant};
-use record_layouts::RecordView;
+use record_layouts::{ROWS, RecordView};
 
 /// How many bytes of a tape one line has.
 const TAPE_LINE: usize = 64;
-
-/// The rows of a screen.
-const ROWS: u32 = 24;
 
 /// The first status word of a signal. Those below are exit codes.
 const SIGNAL: u32 = 0x100;

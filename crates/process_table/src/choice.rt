@@ -7,9 +7,9 @@ ghost use Rattle.process_table.specs.Choosing.{IsChoice, IsNext, IsNone, IsReady
 ghost use Rattle.process_table.specs.Choosing.{call_goes_on, description_in, is_ready, is_runnable_in, last_pid, read_by, tty_goes_on, wait_goes_on};
 
 use crate::signals::signal_of;
-use crate::slots::{IN_CALL, OUTSIDE, SLOTS, Sought, has_such, is_live};
+use crate::slots::{IN_CALL, OUTSIDE, Sought, has_such, is_live};
 use ow_base::Now;
-use record_layouts::{DescRec, ProcRec, RecordView};
+use record_layouts::{DescRec, ProcRec, RecordView, SLOTS};
 
 // The numbers of the calls that a process can be in: write, read and wait.
 const WRITE: u32 = 2;

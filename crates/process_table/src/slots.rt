@@ -3,10 +3,7 @@ ghost use Rattle.std.specs.Prelude.{◌≡◌, ◌<◌, ◌≤◌, IfSome, IfNon
 ghost use Rattle.record_layouts.specs.Decode.{next_by};
 ghost use Rattle.process_table.specs.Slots.{IsFull, IsLeastFree, has_such, is_free, is_live_one, is_live_pid, is_sought};
 
-use record_layouts::{ProcRec, RecordView};
-
-/// How many slots there are.
-pub(crate) const SLOTS: u32 = 16;
+use record_layouts::{PIDS_END, ProcRec, RecordView, SLOTS};
 
 // A free slot.
 const FREE: u32 = 0;
@@ -19,9 +16,6 @@ pub(crate) const IN_CALL: u32 = 2;
 
 /// The state of a process that has ended.
 pub(crate) const ENDED: u32 = 3;
-
-// Past the last pid.
-const PIDS_END: u32 = 257;
 
 /// The process goes on.
 pub(crate) fn is_live(process: &ProcRec) -> bool
