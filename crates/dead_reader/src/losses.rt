@@ -6,11 +6,6 @@ ghost use Rattle.dead_reader.specs.Losses.{bit_if, bits_lost, loses, loses_by, m
 use crate::terminals::terminal_decodes;
 use record_layouts::{CACHE_ENTRIES, DescRec, RecordView};
 
-// What a description is open on: a file or a terminal.
-const FILE: u32 = 1;
-
-const TERMINAL: u32 = 2;
-
 // One file more counts so much in the word that names the owner of a cache entry.
 const FILE_UNIT: u32 = 1 << 20;
 
@@ -72,9 +67,9 @@ fn loses_by<V: RecordView>(view: &V, loss: Loss, description: Option<DescRec>) -
         return loss == Loss::Closed;
     };
     match loss {
-        Loss::Closed => description.object == FILE && view.file(description.index).is_none(),
-        Loss::Page => description.object == FILE && may_lack_page(view, description.index),
-        Loss::Terminal => description.object == TERMINAL
+        Loss::Closed => description.is_on_file() && view.file(description.index).is_none(),
+        Loss::Page => description.is_on_file() && may_lack_page(view, description.index),
+        Loss::Terminal => description.is_on_terminal()
             && !terminal_decodes(view, description.index),
     }
 }

@@ -15,14 +15,6 @@ use frame_table::{frame_of_page, has_tables, pages};
 use ow_plant::HandOver;
 use record_layouts::{CODE_PAGE, DeadProc, PIDS_END, ProcRec, RecordId, RecordView, STACK_PAGE, STACK_PAGES};
 
-// The state of an exit record whose pid is live.
-const LIVE: u32 = 1;
-
-// The states of a process outside a call and in one.
-const OUTSIDE: u32 = 1;
-
-const IN_CALL: u32 = 2;
-
 // The index of a record by itself, and of the two words of the root by which its tables are found. Pages, which have
 // their own numbers, begin above.
 const RECORD: u32 = 0;
@@ -59,7 +51,7 @@ fn is_live_in<V: RecordView>(view: &V, pid: u32, slot: u32) -> bool
     ensures { result ≡ is_number (slot_by ((V.records view.now).exits pid)) slot }
 {
     view.exit(pid)
-        .is_some_and(|exit| exit.state == LIVE && exit.value == slot)
+        .is_some_and(|exit| exit.is_live() && exit.value == slot)
 }
 
 // The least pid that is live in a slot.
@@ -130,8 +122,7 @@ fn record_of<V: RecordView>(view: &V, slot: u32, pid: u32) -> Option<ProcRec>
     ensures none { IfNone result (is_record_of pid ((V.records view.now).procs slot) ≡ false) }
 {
     let process = view.proc(slot)?;
-    let goes_on = process.state == OUTSIDE || process.state == IN_CALL;
-    if goes_on && process.pid == pid {
+    if process.is_live() && process.pid == pid {
         Some(process)
     } else {
         None

@@ -1,7 +1,7 @@
 //! Which pages a process has, by its record.
 
 ghost use Rattle.std.specs.Prelude.{◌≡◌, ◌<◌, ◌≤◌, ◌^◌};
-ghost use Rattle.record_layouts.specs.Pages.{heap_pages, is_live, page_total, region_of};
+ghost use Rattle.record_layouts.specs.Pages.{heap_pages, page_total, region_of};
 ghost use Rattle.record_layouts.specs.Proc.{FitsProc};
 
 use ow_base::Rights;
@@ -9,13 +9,6 @@ use record_layouts::{CODE_PAGE, ProcRec, STACK_PAGE, STACK_PAGES};
 
 // The bytes of a page.
 const PAGE: u32 = 4096;
-
-// The process goes on: it is outside a call or in one.
-fn is_live(rec: &ProcRec) -> bool
-    ensures { result ≡ is_live rec.now }
-{
-    rec.state == 1 || rec.state == 2
-}
 
 // The pages that the heap has: a page of which only a part lies below the break counts whole.
 fn heap_pages(rec: &ProcRec) -> u32
@@ -32,10 +25,11 @@ pub fn pages(rec: &ProcRec) -> u32
     requires { FitsProc rec.now }
     ensures { result ≡ page_total rec.now }
 {
-    if !is_live(rec) {
-        return 0;
+    if rec.is_live() {
+        rec.code_pages + rec.data_pages + heap_pages(rec) + STACK_PAGES
+    } else {
+        0
     }
-    rec.code_pages + rec.data_pages + heap_pages(rec) + STACK_PAGES
 }
 
 /// What the process may do with a page, by the page's number (its address / 4096). `None` exactly where its regions do
@@ -47,7 +41,7 @@ pub fn region(rec: &ProcRec, page: u32) -> Option<Rights>
     requires page { page < 2 ^ 20 }
     ensures { result ≡ region_of rec.now page }
 {
-    if !is_live(rec) {
+    if !rec.is_live() {
         return None;
     }
     let values_start = CODE_PAGE + rec.code_pages;

@@ -25,9 +25,6 @@ const FAULT: u32 = 0x200;
 /// The first status word of a loss.
 const LOST: u32 = 0x300;
 
-/// The state that the exit record of an ended process has.
-const ENDED: u32 = 2;
-
 /// A token of a line.
 #[derive(Clone, Copy, Debug)]
 enum Token<'a> {
@@ -246,7 +243,7 @@ fn exit_status(plant: &Plant, pid: u32) -> Option<u32>
     ensures { result ≡ (unix_at plant.now).exits pid }
 {
     match live_records(plant).exit(pid) {
-        Some(exit) if exit.state == ENDED => Some(exit.value),
+        Some(exit) if exit.has_ended() => Some(exit.value),
         _ => None,
     }
 }
