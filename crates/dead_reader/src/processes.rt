@@ -13,7 +13,9 @@ ghost use Rattle.dead_reader.specs.Processes.{IsDead, IsDecoded, IsUnreadable};
 use crate::left::dead_process;
 use frame_table::{frame_of_page, has_tables, pages};
 use ow_plant::HandOver;
-use record_layouts::{CODE_PAGE, DeadProc, PIDS_END, ProcRec, RecordId, RecordView, STACK_PAGE, STACK_PAGES};
+use record_layouts::{
+    CODE_PAGE, DeadProc, PIDS_END, ProcRec, RecordId, RecordView, STACK_PAGE, STACK_PAGES,
+};
 
 // The index of a record by itself, and of the two words of the root by which its tables are found. Pages, which have
 // their own numbers, begin above.

@@ -18,3 +18,4 @@ pub mod Files
 pub mod Ranges
 pub mod Intents
 pub mod Frames
+pub mod LeftImages
