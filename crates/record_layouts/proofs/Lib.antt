@@ -2,6 +2,7 @@
 -- words, on how the records with lists are written, on how records are read, on pages that have frames, on the ranges of an intent, and on what
 -- these and single stores make of the records of an area.
 pub mod Turning
+pub mod Surviving
 pub mod Least
 pub mod Records
 pub mod Reading

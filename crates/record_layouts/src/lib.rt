@@ -19,6 +19,7 @@ mod memory_map;
 mod overlay;
 mod overlay_laws;
 mod packing;
+mod panic_laws;
 mod patch;
 mod places;
 mod proc;
@@ -48,6 +49,10 @@ pub use memory_map::MemoryMap;
 pub use overlay::{change_at, gate, open_end, overlaid};
 pub use overlay_laws::{intents_are_read, other_words_stay, the_block_decides};
 pub use ow_base::WordSource;
+pub use panic_laws::{
+    calls_are_undone, closing_traps_are_repeated, due_panics_come, live_processes_have_fates,
+    only_processes_change, outside_goes_on, panics_are_told_as_listed, untouched_processes_survive,
+};
 pub use patch::{AnyRec, Patch, PatchItem};
 pub use places::{RecordId, address, records_lie_apart};
 pub use proc::{ProcRec, processes_are_spelled_once};

@@ -67,9 +67,9 @@ is_on_reset_tty v x (Some number) = not (x.descs number) && is_open_on (λ file.
 is_on_reset_tty v x None = false
 
 -- one of these descriptors passes the test
-unfoldable pub is_one : (test : Option ℕ → Bool) → List (Option ℕ) → Bool
-is_one test [] = false
-is_one test (d ∷ ds) = test d || is_one test ds
+unfoldable pub has_passing : (test : Option ℕ → Bool) → List (Option ℕ) → Bool
+has_passing test [] = false
+has_passing test (d ∷ ds) = test d || has_passing test ds
 
 abbrev pub bit_if : Bool → (value : ℕ) → ℕ
 bit_if test value = if test then value else 0
@@ -78,8 +78,8 @@ bit_if test value = if test then value else 0
 -- terminal that is reset, and 8 for its signals.
 unfoldable pub bits_lost : Unix → Wounds → (pid : ℕ) → Process → ℕ
 bits_lost v x pid p =
-    bit_if (is_one (is_closed v x) p.descriptors) 1 + bit_if (is_one (has_lost_page v x) p.descriptors) 2
-    + bit_if (is_one (is_on_reset_tty v x) p.descriptors) 4 + bit_if (x.sigs pid) 8
+    bit_if (has_passing (is_closed v x) p.descriptors) 1 + bit_if (has_passing (has_lost_page v x) p.descriptors) 2
+    + bit_if (has_passing (is_on_reset_tty v x) p.descriptors) 4 + bit_if (x.sigs pid) 8
 
 -- what its crash procedure is told: this, and 16 for a call that was aborted
 unfoldable pub bits_of : Unix → Wounds → (pid : ℕ) → Process → ℕ
@@ -188,3 +188,8 @@ fates_from v x pid (suc n) = fate_before v x pid (v.processes pid) (fates_from v
 
 unfoldable pub fates : Unix → Wounds → List (ℕ × Fate)
 fates v x = fates_from v x 1 most_pids
+
+-- the fate that is told of a process
+unfoldable pub fate_in : List (ℕ × Fate) → (pid : ℕ) → Option Fate
+fate_in [] pid = None
+fate_in (told ∷ rest) pid = if told.0 == pid then Some told.1 else fate_in rest pid
