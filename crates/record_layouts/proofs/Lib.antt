@@ -20,3 +20,5 @@ pub mod Ranges
 pub mod Intents
 pub mod Frames
 pub mod LeftImages
+pub mod Words
+pub mod Alike

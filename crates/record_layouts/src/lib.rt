@@ -44,7 +44,9 @@ pub use layout::{
     AREA_FRAMES, CACHE_ENTRIES, CACHE_OWNERS, CODE_PAGE, FIRST_TABLE, KERNEL_FRAMES, OWNERS,
     PIDS_END, ROWS, SLOTS, STACK_PAGE, STACK_PAGES, TABLES_OF_SLOT,
 };
-pub use left_laws::{left_processes_are_of_the_unix, whole_images_have_no_wounds};
+pub use left_laws::{
+    alike_images_say_the_same, left_processes_are_of_the_unix, whole_images_have_no_wounds,
+};
 pub use memory_map::MemoryMap;
 pub use overlay::{change_at, gate, open_end, overlaid};
 pub use overlay_laws::{intents_are_read, other_words_stay, the_block_decides};
