@@ -2,6 +2,7 @@
 use Rattle.std.specs.Prelude.{ℕ, ◌+◌, ◌-◌, Bool, true, false, not, ◌==◌, ◌&&◌, if◌then◌else◌, List, slice_index, Option, Some, None, is_some}
 use Rattle.record_layouts.specs.declared.desc.DescRec.{DescRec}
 use Rattle.record_layouts.specs.Unix.Choice.{is_any}
+use Rattle.record_layouts.specs.Desc.{is_on_file, is_on_terminal}
 use Rattle.record_layouts.specs.Held.{Records}
 pub use Rattle.record_layouts.specs.Left.{is_lost_entry, names_file}
 unfoldable pub use Rattle.record_layouts.specs.Left.{may_lack_page}
@@ -13,9 +14,9 @@ use Rattle.dead_reader.specs.declared.losses.Loss.TheVariants as loss
 -- asked of it, or where that is on a file whose record does not decode. A page may be lost of its file; its terminal is
 -- reset where this does not decode.
 abbrev pub loses_by : Records → Loss → Option DescRec → Bool
-loses_by r loss.Closed (Some d) = d.object == 1 && not (is_some (r.files d.index))
-loses_by r loss.Page (Some d) = d.object == 1 && may_lack_page r d.index
-loses_by r loss.Terminal (Some d) = d.object == 2 && not (terminal_decodes r d.index)
+loses_by r loss.Closed (Some d) = is_on_file d && not (is_some (r.files d.index))
+loses_by r loss.Page (Some d) = is_on_file d && may_lack_page r d.index
+loses_by r loss.Terminal (Some d) = is_on_terminal d && not (terminal_decodes r d.index)
 loses_by r loss.Closed None = true
 loses_by r loss.Page None = false
 loses_by r loss.Terminal None = false

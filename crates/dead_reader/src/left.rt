@@ -7,9 +7,6 @@ use ow_base::Came;
 use ow_plant::HandOver;
 use record_layouts::{DeadProc, HeadRec, ProcRec, RecordView};
 
-// The state of a process in a call.
-const IN_CALL: u32 = 2;
-
 // The register of a call's number, a7.
 const NUMBER: u32 = 17;
 
@@ -69,7 +66,7 @@ fn left_rec(handed: &Option<HandOver>, head: Option<HeadRec>, process: &ProcRec)
 fn call_found(handed: &Option<HandOver>, head: Option<HeadRec>, process: &ProcRec) -> Option<u32>
     ensures { result ≡ call_found (handed_of handed.now) head process.now }
 {
-    if process.state == IN_CALL {
+    if process.is_in_call() {
         return Some(process.call);
     }
     match handed {

@@ -4,15 +4,7 @@ ghost use Rattle.record_layouts.specs.Desc.{FitsDesc};
 ghost use Rattle.dead_reader.specs.Losses.{bit_if, bits_lost, loses, loses_by, may_lack_page, names_file, one_loses};
 
 use crate::terminals::terminal_decodes;
-use record_layouts::{DescRec, RecordView};
-
-// The entries of the cache.
-const ENTRIES: u32 = 64;
-
-// What a description is open on: a file or a terminal.
-const FILE: u32 = 1;
-
-const TERMINAL: u32 = 2;
+use record_layouts::{CACHE_ENTRIES, DescRec, RecordView};
 
 // One file more counts so much in the word that names the owner of a cache entry.
 const FILE_UNIT: u32 = 1 << 20;
@@ -58,7 +50,7 @@ fn may_lack_page<V: RecordView>(view: &V, file: u32) -> bool
     requires { file < 32 }
     ensures { result ≡ may_lack_page (V.records view.now) file }
 {
-    for entry in 0..ENTRIES {
+    for entry in 0..CACHE_ENTRIES {
         if view.cache(entry).is_none() && names_file(file, view.cache_owner(entry)) {
             return true;
         }
@@ -75,9 +67,9 @@ fn loses_by<V: RecordView>(view: &V, loss: Loss, description: Option<DescRec>) -
         return loss == Loss::Closed;
     };
     match loss {
-        Loss::Closed => description.object == FILE && view.file(description.index).is_none(),
-        Loss::Page => description.object == FILE && may_lack_page(view, description.index),
-        Loss::Terminal => description.object == TERMINAL
+        Loss::Closed => description.is_on_file() && view.file(description.index).is_none(),
+        Loss::Page => description.is_on_file() && may_lack_page(view, description.index),
+        Loss::Terminal => description.is_on_terminal()
             && !terminal_decodes(view, description.index),
     }
 }

@@ -13,31 +13,15 @@ ghost use Rattle.dead_reader.specs.Processes.{IsDead, IsDecoded, IsUnreadable};
 use crate::left::dead_process;
 use frame_table::{frame_of_page, has_tables, pages};
 use ow_plant::HandOver;
-use record_layouts::{DeadProc, ProcRec, RecordId, RecordView};
-
-// Past the last pid.
-const PIDS_END: u32 = 257;
-
-// The state of an exit record whose pid is live.
-const LIVE: u32 = 1;
-
-// The states of a process outside a call and in one.
-const OUTSIDE: u32 = 1;
-
-const IN_CALL: u32 = 2;
+use record_layouts::{
+    CODE_PAGE, DeadProc, PIDS_END, ProcRec, RecordId, RecordView, STACK_PAGE, STACK_PAGES,
+};
 
 // The index of a record by itself, and of the two words of the root by which its tables are found. Pages, which have
 // their own numbers, begin above.
 const RECORD: u32 = 0;
 
 const ROOT: u32 = 1;
-
-// The first page of code, the first of the stack, and how many pages the stack has.
-const CODE_START: u32 = 16;
-
-const STACK_START: u32 = 0x7_fffc;
-
-const STACK_PAGES: u32 = 4;
 
 /// The first part of a process that cannot be read.
 ///
@@ -69,7 +53,7 @@ fn is_live_in<V: RecordView>(view: &V, pid: u32, slot: u32) -> bool
     ensures { result ≡ is_number (slot_by ((V.records view.now).exits pid)) slot }
 {
     view.exit(pid)
-        .is_some_and(|exit| exit.state == LIVE && exit.value == slot)
+        .is_some_and(|exit| exit.is_live() && exit.value == slot)
 }
 
 // The least pid that is live in a slot.
@@ -124,9 +108,9 @@ fn page_without_frame<V: RecordView>(view: &V, slot: u32, rec: &ProcRec) -> Opti
     ensures none { IfNone result (has_tables (V.records view.now) slot ≡ true → is_mapped (V.records view.now) slot rec.now ≡ true) }
 {
     let below_stack = pages(rec) - STACK_PAGES;
-    match first_without_frame(view, slot, rec, CODE_START, below_stack) {
+    match first_without_frame(view, slot, rec, CODE_PAGE, below_stack) {
         Some(page) => Some(page),
-        None => first_without_frame(view, slot, rec, STACK_START, STACK_PAGES),
+        None => first_without_frame(view, slot, rec, STACK_PAGE, STACK_PAGES),
     }
 }
 
@@ -140,8 +124,7 @@ fn record_of<V: RecordView>(view: &V, slot: u32, pid: u32) -> Option<ProcRec>
     ensures none { IfNone result (is_record_of pid ((V.records view.now).procs slot) ≡ false) }
 {
     let process = view.proc(slot)?;
-    let goes_on = process.state == OUTSIDE || process.state == IN_CALL;
-    if goes_on && process.pid == pid {
+    if process.is_live() && process.pid == pid {
         Some(process)
     } else {
         None

@@ -3,10 +3,7 @@ ghost use Rattle.std.specs.Prelude.{◌≡◌, ◌↔◌, ℕ, ◌+◌, ◌*◌,
 ghost use Rattle.record_layouts.specs.Terminals.{TerminalDecodes};
 ghost use Rattle.dead_reader.specs.Terminals.{IsInFlight, lacks_row, terminal_decodes};
 
-use record_layouts::RecordView;
-
-// The rows of a terminal.
-const ROWS: u32 = 24;
+use record_layouts::{ROWS, RecordView};
 
 // One of a terminal's rows does not decode.
 #[tactic(auto, unfolding(record_layouts::specs::Terminals::lacks_row))]

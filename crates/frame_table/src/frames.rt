@@ -7,7 +7,7 @@ ghost use Rattle.record_layouts.specs.Proc.{FitsProc};
 
 use crate::regions::region;
 use ow_base::Rights;
-use record_layouts::{ProcRec, RecordView};
+use record_layouts::{FIRST_TABLE, ProcRec, RecordView, TABLES_OF_SLOT};
 use sv32_tables::leaf;
 
 // The pages that one table of the last level speaks of.
@@ -18,9 +18,6 @@ const FRAME_UNIT: u32 = 1024;
 
 // The flags of an entry that names a table: V alone.
 const POINTER_FLAGS: u32 = 1;
-
-// The root of slot 0 in the area. The low table and the high one of a slot follow its root.
-const FIRST_ROOT: u32 = 16;
 
 /// The word that names a page of a slot as the owner of a frame.
 pub fn claim_word(slot: u32, page: u32) -> u32
@@ -96,7 +93,7 @@ fn is_linked<V: RecordView>(view: &V, slot: u32, table: u32, place: u32) -> bool
     ensures { result ≡ is_linked (V.records view.now) slot table place }
 {
     let root = view.table_word(slot, 0, place);
-    let frame = view.area_base() + FIRST_ROOT + 3 * slot + table;
+    let frame = view.area_base() + FIRST_TABLE + TABLES_OF_SLOT * slot + table;
     root % FRAME_UNIT == POINTER_FLAGS && root / FRAME_UNIT == frame
 }
 

@@ -1,29 +1,14 @@
 //! Which pages a process has, by its record.
 
 ghost use Rattle.std.specs.Prelude.{◌≡◌, ◌<◌, ◌≤◌, ◌^◌};
-ghost use Rattle.record_layouts.specs.Pages.{heap_pages, is_live, page_total, region_of};
+ghost use Rattle.record_layouts.specs.Pages.{heap_pages, page_total, region_of};
 ghost use Rattle.record_layouts.specs.Proc.{FitsProc};
 
 use ow_base::Rights;
-use record_layouts::ProcRec;
+use record_layouts::{CODE_PAGE, ProcRec, STACK_PAGE, STACK_PAGES};
 
 // The bytes of a page.
 const PAGE: u32 = 4096;
-
-// The first page of code.
-const CODE_START: u32 = 16;
-
-// The first page of the stack, and how many pages it has.
-const STACK_START: u32 = 0x7_fffc;
-
-const STACK_PAGES: u32 = 4;
-
-// The process goes on: it is outside a call or in one.
-fn is_live(rec: &ProcRec) -> bool
-    ensures { result ≡ is_live rec.now }
-{
-    rec.state == 1 || rec.state == 2
-}
 
 // The pages that the heap has: a page of which only a part lies below the break counts whole.
 fn heap_pages(rec: &ProcRec) -> u32
@@ -40,10 +25,11 @@ pub fn pages(rec: &ProcRec) -> u32
     requires { FitsProc rec.now }
     ensures { result ≡ page_total rec.now }
 {
-    if !is_live(rec) {
-        return 0;
+    if rec.is_live() {
+        rec.code_pages + rec.data_pages + heap_pages(rec) + STACK_PAGES
+    } else {
+        0
     }
-    rec.code_pages + rec.data_pages + heap_pages(rec) + STACK_PAGES
 }
 
 /// What the process may do with a page, by the page's number (its address / 4096). `None` exactly where its regions do
@@ -55,16 +41,16 @@ pub fn region(rec: &ProcRec, page: u32) -> Option<Rights>
     requires page { page < 2 ^ 20 }
     ensures { result ≡ region_of rec.now page }
 {
-    if !is_live(rec) {
+    if !rec.is_live() {
         return None;
     }
-    let values_start = CODE_START + rec.code_pages;
+    let values_start = CODE_PAGE + rec.code_pages;
     let values_end = values_start + rec.data_pages + heap_pages(rec);
-    if (CODE_START..values_start).contains(&page) {
+    if (CODE_PAGE..values_start).contains(&page) {
         return Some(Rights::Code);
     }
     let is_of_values = (values_start..values_end).contains(&page)
-        || (STACK_START..STACK_START + STACK_PAGES).contains(&page);
+        || (STACK_PAGE..STACK_PAGE + STACK_PAGES).contains(&page);
     if is_of_values {
         Some(Rights::Values)
     } else {

@@ -9,18 +9,9 @@ use crate::blueprint::{Blueprint, Holder, Placed};
 use crate::setting::set_records;
 use frame_table::claim_word;
 use ow_base::{FRAME_WORDS, Panicked};
-use record_layouts::MemoryMap;
+use record_layouts::{FIRST_TABLE, GATE, MemoryMap, OWNERS, SLOTS, TABLES_OF_SLOT};
 use sv32_tables::{leaf, pointer};
 use word_store::{WordStore, store_area};
-
-const SLOTS: u32 = 16;
-
-// Where the first table, the owners of frames and the gate of the intent block are in an area.
-const FIRST_TABLE: u32 = 16;
-
-const OWNERS: u32 = 10240;
-
-const GATE: u32 = 16;
 
 // The first page of the high table.
 const HIGH: u32 = 0x7fc00;
@@ -62,7 +53,7 @@ fn entry<B: Blueprint>(map: &MemoryMap, blueprint: &B, slot: u32, table: u32, wo
     ensures { result ≡ entry_word map.now (B.plan blueprint.now) slot table word }
 {
     match table {
-        0 => root(map.area_base + (FIRST_TABLE + 3 * slot), word),
+        0 => root(map.area_base + (FIRST_TABLE + TABLES_OF_SLOT * slot), word),
         1 => entry_of(map, blueprint.page(slot, word)),
         _ => entry_of(map, blueprint.page(slot, HIGH + word)),
     }
@@ -93,7 +84,7 @@ fn set_table<B: Blueprint, S: WordStore>(
     ensures allowed { OnErr result (S.may_refuse (S.rest store.old) ≡ true) }
     ensures place { S.place store.new ≡ S.place store.old }
 {
-    let first = FRAME_WORDS * (FIRST_TABLE + 3 * slot + table);
+    let first = FRAME_WORDS * (FIRST_TABLE + TABLES_OF_SLOT * slot + table);
     for word in 0..FRAME_WORDS {
         store_area(
             store,

@@ -8,10 +8,7 @@ ghost use Rattle.kernel_traps.specs.User.{IsOutside, IsReturned, IsUserTurn};
 use crate::turns::Next;
 use intent_store::live_records;
 use ow_plant::{Bank, Plant, UserEnd};
-use record_layouts::{RecordView, Trap};
-
-// The first frame of an area with tables, of which each slot has three.
-const FIRST_ROOT: u32 = 16;
+use record_layouts::{FIRST_TABLE, RecordView, TABLES_OF_SLOT, Trap};
 
 // Control goes to the process in a slot, which is outside a call: its bank is loaded and its tables are in use.
 pub(crate) fn return_to(plant: &mut Plant, slot: u32)
@@ -23,7 +20,7 @@ pub(crate) fn return_to(plant: &mut Plant, slot: u32)
 {
     let view = live_records(plant);
     let process = view.proc(slot).unwrap();
-    let root = view.area_base() + FIRST_ROOT + 3 * slot;
+    let root = view.area_base() + FIRST_TABLE + TABLES_OF_SLOT * slot;
     let bank = Bank {
         pc: process.pc,
         regs: process.regs,

@@ -11,13 +11,10 @@ use intent_store::live_records;
 use itoa::Buffer;
 use ow_base::{Ending, Failed, Sink, put_all, put_escaped};
 use ow_plant::{Display, Plant};
-use record_layouts::RecordView;
+use record_layouts::{ROWS, RecordView};
 
 /// How many bytes of a tape one line has.
 const TAPE_LINE: usize = 64;
-
-/// The rows of a screen.
-const ROWS: u32 = 24;
 
 /// The first status word of a signal. Those below are exit codes.
 const SIGNAL: u32 = 0x100;
@@ -27,9 +24,6 @@ const FAULT: u32 = 0x200;
 
 /// The first status word of a loss.
 const LOST: u32 = 0x300;
-
-/// The state that the exit record of an ended process has.
-const ENDED: u32 = 2;
 
 /// A token of a line.
 #[derive(Clone, Copy, Debug)]
@@ -249,7 +243,7 @@ fn exit_status(plant: &Plant, pid: u32) -> Option<u32>
     ensures { result ≡ (unix_at plant.now).exits pid }
 {
     match live_records(plant).exit(pid) {
-        Some(exit) if exit.state == ENDED => Some(exit.value),
+        Some(exit) if exit.has_ended() => Some(exit.value),
         _ => None,
     }
 }

@@ -9,8 +9,9 @@ use Rattle.record_layouts.specs.declared.desc.DescRec.{DescRec}
 use Rattle.record_layouts.specs.declared.term.TermRec.{TermRec}
 use Rattle.record_layouts.specs.Unix.Choice.{Keys, least_from}
 use Rattle.record_layouts.specs.Decode.{is_pending}
+use Rattle.record_layouts.specs.Desc.{is_on_file, is_on_terminal}
 use Rattle.record_layouts.specs.Held.{Records}
-use Rattle.record_layouts.specs.Pages.{is_live}
+use Rattle.record_layouts.specs.Pages.{is_live, is_outside}
 use Rattle.process_table.specs.Slots.{has_such, is_live_one, is_live_child, is_ended_child}
 use Rattle.process_table.specs.declared.choice.Choice.{Choice}
 use Rattle.process_table.specs.declared.choice.Choice.TheVariants as choice
@@ -37,7 +38,7 @@ tty_goes_on now tty None = false
 
 -- a read through a description can: of a file always
 abbrev pub read_by : Records → Now → Option DescRec → Bool
-read_by r now (Some description) = description.object == 1 || (description.object == 2 && tty_goes_on now description.index (r.terms description.index))
+read_by r now (Some description) = is_on_file description || (is_on_terminal description && tty_goes_on now description.index (r.terms description.index))
 read_by r now None = false
 
 -- the description that a descriptor word names: 0 names none
@@ -61,7 +62,7 @@ call_goes_on r now process =
 
 -- a live process can run: a signal goes to it, it is outside a call, or its call can go on
 abbrev pub is_runnable_in : Records → Now → (slot : ℕ) → ProcRec → Bool
-is_runnable_in r now slot process = is_some (signal_by process (r.sigs slot)) || (process.state == 1 || call_goes_on r now process)
+is_runnable_in r now slot process = is_some (signal_by process (r.sigs slot)) || (is_outside process || call_goes_on r now process)
 
 abbrev pub is_ready_one : Records → Now → (above slot : ℕ) → Option ProcRec → Bool
 is_ready_one r now above slot (Some process) = nat_lt above process.pid && (is_live process && is_runnable_in r now slot process)

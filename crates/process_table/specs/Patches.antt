@@ -12,6 +12,7 @@ use Rattle.record_layouts.specs.declared.places.RecordId.TheVariants as id
 use Rattle.record_layouts.specs.declared.patch.AnyRec.TheVariants as any
 use Rattle.record_layouts.specs.declared.patch.PatchItem.{PatchItem}
 use Rattle.record_layouts.specs.Held.{Records}
+use Rattle.record_layouts.specs.Pages.{is_in_call}
 use Rattle.process_table.specs.Choosing.{signal_by}
 
 -- the trap is done, and the process with this pid had it
@@ -68,7 +69,7 @@ saved_items head slot process bank trap = head_item head trap process.pid ∷ pr
 -- a call in progress ends with the bytes done, or with EINTR 4 where there are none
 abbrev pub interrupted : ProcRec → ProcRec
 interrupted process =
-    if process.state == 2
+    if is_in_call process
     then record process {
       state = 1;
       call = 0;

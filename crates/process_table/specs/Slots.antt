@@ -3,8 +3,9 @@ use Rattle.std.specs.Prelude.{◌≡◌, ℕ, ◌<◌, Bool, true, false, ◌==�
 use Rattle.record_layouts.specs.declared.proc.ProcRec.{ProcRec}
 use Rattle.record_layouts.specs.declared.exit.ExitRec.{ExitRec}
 use Rattle.record_layouts.specs.Unix.Choice.{is_any}
+use Rattle.record_layouts.specs.Exit.{tells_live}
 use Rattle.record_layouts.specs.Held.{Records}
-use Rattle.record_layouts.specs.Pages.{is_live}
+use Rattle.record_layouts.specs.Pages.{has_ended, is_live}
 use Rattle.process_table.specs.declared.slots.Sought.{Sought}
 
 -- the record is that of a live process
@@ -19,7 +20,7 @@ is_live_child parent None = false
 
 -- the record is that of a child of this parent that has ended
 abbrev pub is_ended_child : (parent : ℕ) → Option ProcRec → Bool
-is_ended_child parent (Some process) = process.state == 3 && process.parent == parent
+is_ended_child parent (Some process) = has_ended process && process.parent == parent
 is_ended_child parent None = false
 
 -- one of the sixteen slots holds a record that passes
@@ -34,7 +35,7 @@ is_sought (Sought.EndedChild parent) = is_ended_child parent
 
 -- the pid is that of a live process
 abbrev pub is_live_exit : Option ExitRec → Bool
-is_live_exit (Some exit) = exit.state == 1
+is_live_exit (Some exit) = tells_live exit
 is_live_exit None = false
 
 abbrev pub is_live_pid : Records → (pid : ℕ) → Bool
@@ -42,7 +43,7 @@ is_live_pid r pid = not (pid == 0) && is_live_exit (r.exits pid)
 
 -- the slot of this record can be taken: it is free, or its process has ended and the parent is not live
 abbrev pub is_free : Records → Option ProcRec → Bool
-is_free r (Some process) = process.state == 0 || (process.state == 3 && not (is_live_pid r process.parent))
+is_free r (Some process) = process.state == 0 || (has_ended process && not (is_live_pid r process.parent))
 is_free r None = false
 
 -- the least slot that can be taken

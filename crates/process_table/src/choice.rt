@@ -7,9 +7,9 @@ ghost use Rattle.process_table.specs.Choosing.{IsChoice, IsNext, IsNone, IsReady
 ghost use Rattle.process_table.specs.Choosing.{call_goes_on, description_in, is_ready, is_runnable_in, last_pid, read_by, tty_goes_on, wait_goes_on};
 
 use crate::signals::signal_of;
-use crate::slots::{IN_CALL, OUTSIDE, SLOTS, Sought, has_such, is_live};
+use crate::slots::{Sought, has_such};
 use ow_base::Now;
-use record_layouts::{DescRec, ProcRec, RecordView};
+use record_layouts::{DescRec, ProcRec, RecordView, SLOTS};
 
 // The numbers of the calls that a process can be in: write, read and wait.
 const WRITE: u32 = 2;
@@ -17,11 +17,6 @@ const WRITE: u32 = 2;
 const READ: u32 = 3;
 
 const WAIT: u32 = 10;
-
-// What a description is open on: a file or a terminal.
-const FILE: u32 = 1;
-
-const TERMINAL: u32 = 2;
 
 /// What a kernel does next. The numbers are slots.
 #[derive(Clone, Copy, Debug, PartialEq, Eq)]
@@ -72,12 +67,12 @@ fn read_goes_on<V: RecordView>(view: &V, now: &Now, process: &ProcRec) -> bool
     ensures { result ≡ read_by (V.records view.now) now.now (description_in (V.records view.now) process.now) }
 {
     match description_in(view, process) {
-        Some(description) if description.object == TERMINAL => tty_goes_on(
+        Some(description) if description.is_on_terminal() => tty_goes_on(
             view,
             now,
             description.index,
         ),
-        Some(description) => description.object == FILE,
+        Some(description) => description.is_on_file(),
         None => false,
     }
 }
@@ -113,7 +108,7 @@ fn is_runnable<V: RecordView>(view: &V, now: &Now, slot: u32, process: &ProcRec)
     ensures { result ≡ is_runnable_in (V.records view.now) now.now slot process.now }
 {
     signal_of(view, slot, process).is_some()
-        || process.state == OUTSIDE
+        || process.is_outside()
         || call_goes_on(view, now, process)
 }
 
@@ -125,7 +120,7 @@ fn ready_in<V: RecordView>(view: &V, now: &Now, above: u32, slot: u32) -> Option
     ensures none { IfNone result (is_ready (V.records view.now) now.now above slot ≡ false) }
 {
     let process = view.proc(slot)?;
-    let ready = process.pid > above && is_live(&process) && is_runnable(view, now, slot, &process);
+    let ready = process.pid > above && process.is_live() && is_runnable(view, now, slot, &process);
     if ready { Some(process) } else { None }
 }
 
@@ -192,7 +187,7 @@ fn work_of<V: RecordView>(view: &V, slot: u32) -> Choice
     };
     match signal_of(view, slot, &process) {
         Some(_) => Choice::Signal(slot),
-        None if process.state == IN_CALL => Choice::Piece(slot),
+        None if process.is_in_call() => Choice::Piece(slot),
         None => Choice::User(slot),
     }
 }

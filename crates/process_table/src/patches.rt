@@ -11,7 +11,7 @@ ghost use Rattle.process_table.specs.Patches.{blank_bank, ended_items, ended_pro
 ghost use Rattle.process_table.specs.Slots.{is_live_one};
 
 use crate::signals::{next_signal, without_signal};
-use crate::slots::{ENDED, IN_CALL, OUTSIDE};
+use crate::slots::{ENDED, OUTSIDE};
 use ow_base::{Bank, Regs};
 use record_layouts::{AnyRec, ExitRec, HeadRec, Patch, ProcRec, RecordId, RecordView};
 
@@ -102,7 +102,7 @@ fn ending(head: &HeadRec, slot: u32, process: &ProcRec, status: u32, trap: u32) 
 fn interrupted(process: &ProcRec) -> ProcRec
     ensures { result ≡ interrupted process.now }
 {
-    if process.state != IN_CALL {
+    if !process.is_in_call() {
         return *process;
     }
     let mut regs = process.regs;

@@ -1,34 +1,16 @@
 //! What the slots hold, and where a new process can go.
 ghost use Rattle.std.specs.Prelude.{◌≡◌, ◌<◌, ◌≤◌, IfSome, IfNone, Some};
 ghost use Rattle.record_layouts.specs.Decode.{next_by};
-ghost use Rattle.process_table.specs.Slots.{IsFull, IsLeastFree, has_such, is_free, is_live_one, is_live_pid, is_sought};
+ghost use Rattle.process_table.specs.Slots.{IsFull, IsLeastFree, has_such, is_free, is_live_pid, is_sought};
 
-use record_layouts::{ProcRec, RecordView};
+use record_layouts::{PIDS_END, ProcRec, RecordView, SLOTS};
 
-/// How many slots there are.
-pub(crate) const SLOTS: u32 = 16;
-
-// A free slot.
+// The states of a free slot, of a process outside a call and of one that has ended.
 const FREE: u32 = 0;
 
-/// The state of a process outside a call.
 pub(crate) const OUTSIDE: u32 = 1;
 
-/// The state of a process in a call.
-pub(crate) const IN_CALL: u32 = 2;
-
-/// The state of a process that has ended.
 pub(crate) const ENDED: u32 = 3;
-
-// Past the last pid.
-const PIDS_END: u32 = 257;
-
-/// The process goes on.
-pub(crate) fn is_live(process: &ProcRec) -> bool
-    ensures { result ≡ is_live_one (Some process.now) }
-{
-    process.state == OUTSIDE || process.state == IN_CALL
-}
 
 /// What a process is looked for by.
 #[derive(Clone, Copy, Debug, PartialEq, Eq)]
@@ -46,9 +28,9 @@ impl Sought {
         ensures { result ≡ is_sought self (Some process.now) }
     {
         match self {
-            Sought::Live => is_live(process),
-            Sought::LiveChild(parent) => is_live(process) && process.parent == parent,
-            Sought::EndedChild(parent) => process.state == ENDED && process.parent == parent,
+            Sought::Live => process.is_live(),
+            Sought::LiveChild(parent) => process.is_live() && process.parent == parent,
+            Sought::EndedChild(parent) => process.has_ended() && process.parent == parent,
         }
     }
 }
@@ -72,7 +54,7 @@ fn is_live_pid<V: RecordView>(view: &V, pid: u32) -> bool
     requires { pid ≤ 256 }
     ensures { result ≡ is_live_pid (V.records view.now) pid }
 {
-    pid != 0 && view.exit(pid).is_some_and(|exit| exit.state == 1)
+    pid != 0 && view.exit(pid).is_some_and(|exit| exit.is_live())
 }
 
 // The slot of this record can be taken.
@@ -80,7 +62,7 @@ fn is_free<V: RecordView>(view: &V, process: &ProcRec) -> bool
     requires { process.now.parent ≤ 256 }
     ensures { result ≡ is_free (V.records view.now) (Some process.now) }
 {
-    process.state == FREE || process.state == ENDED && !is_live_pid(view, process.parent)
+    process.state == FREE || process.has_ended() && !is_live_pid(view, process.parent)
 }
 
 /// The least slot that a new process can take: it is free, or its process has ended and the parent is not live, so

@@ -20,3 +20,6 @@ pub mod Ranges
 pub mod Intents
 pub mod Items
 pub mod Frames
+pub mod LeftImages
+pub mod Words
+pub mod Alike

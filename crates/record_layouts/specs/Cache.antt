@@ -20,6 +20,10 @@ pub record IsFullCache (entry : CacheRec) : Type 0 where
 abbrev pub FitsCache : CacheRec → Type 0
 FitsCache entry = IsEmptyCache entry ⊎ IsFullCache entry
 
+-- its page was written to, and the disk does not have it so yet
+abbrev pub is_dirty : CacheRec → Bool
+is_dirty entry = entry.state == 2
+
 -- the words are the record of this value
 pub record IsCache (words : List ℕ) (entry : CacheRec) : Type 0 where
   pub long : length words ≡ 8

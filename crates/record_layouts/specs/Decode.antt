@@ -13,7 +13,9 @@ use Rattle.record_layouts.specs.declared.exit.ExitRec.{ExitRec}
 use Rattle.record_layouts.specs.Unix.State.{most_pids, Unix, Process, CallState, Out, In, EndedChild, Description, Object, OnFile, OnTty, Terminal, Position, AtKernel, AtUser, in_use}
 use Rattle.record_layouts.specs.Unix.Choice.{least_from}
 use Rattle.record_layouts.specs.Held.{Records}
-use Rattle.record_layouts.specs.Pages.{is_live, is_mapped, pages_of}
+use Rattle.record_layouts.specs.Desc.{is_on_file, is_on_nothing, is_open_to_read, is_open_to_write}
+use Rattle.record_layouts.specs.Exit.{tells_ended, tells_live}
+use Rattle.record_layouts.specs.Pages.{has_ended, is_in_call, is_live, is_mapped, pages_of}
 
 -- what the processor has of a process in user mode: the pid, the instructions since the return to it, and its bank
 pub data Context : Type 0 where
@@ -22,7 +24,7 @@ pub data Context : Type 0 where
 
 -- the slot in which a pid is live
 abbrev pub slot_by : Option ExitRec → Option ℕ
-slot_by (Some exit) = if exit.state == 1 then Some exit.value else None
+slot_by (Some exit) = if tells_live exit then Some exit.value else None
 slot_by None = None
 
 abbrev pub is_number : Option ℕ → (number : ℕ) → Bool
@@ -34,7 +36,7 @@ unfoldable pub pid_in : Records → (slot : ℕ) → Option ℕ
 pid_in r slot = least_from (λ pid. is_number (slot_by (r.exits pid)) slot) 1 most_pids
 
 abbrev pub call_of : ProcRec → CallState
-call_of process = if process.state == 2 then In process.call process.done else Out
+call_of process = if is_in_call process then In process.call process.done else Out
 
 -- descriptor words: 0 is none, else the description's number and one
 abbrev pub descriptor_of : (word : ℕ) → Option ℕ
@@ -98,7 +100,7 @@ processes_of r words (InUser user count bank) pid = if pid == user then with_ban
 
 -- a record of an ended process, of this pid
 abbrev pub is_ended_as : (pid : ℕ) → Option ProcRec → Bool
-is_ended_as pid (Some process) = process.state == 3 && process.pid == pid
+is_ended_as pid (Some process) = has_ended process && process.pid == pid
 is_ended_as pid None = false
 
 -- an ended child: its parent is live
@@ -114,13 +116,13 @@ ended_in r processes None = None
 unfoldable pub ended_of : Records → (processes : ℕ → Option Process) → (pid : ℕ) → Option EndedChild
 ended_of r processes pid = ended_in r processes (least_from (λ slot. is_ended_as pid (r.procs slot)) 0 16)
 
--- an open description: mode 1 reads, 2 writes, 3 does both
+-- an open description
 abbrev pub object_of : DescRec → Object
-object_of description = if description.object == 1 then OnFile description.index else OnTty description.index
+object_of description = if is_on_file description then OnFile description.index else OnTty description.index
 
 abbrev pub description_by : Option DescRec → Option Description
-description_by (Some d) = if d.object == 0 then None else
-    Some (record { object = object_of d; reads = d.mode % 2 == 1; writes = d.mode / 2 == 1; offset = d.offset })
+description_by (Some d) = if is_on_nothing d then None else
+    Some (record { object = object_of d; reads = is_open_to_read d; writes = is_open_to_write d; offset = d.offset })
 description_by None = None
 
 -- a terminal: where its record counts one byte more than the tape has, that byte is its last
@@ -132,7 +134,7 @@ terminal_by tape (Some terminal) = record { tape = tape_by tape terminal; base =
 terminal_by tape None = record { tape = tape; base = 0; consumed = 0 }
 
 abbrev pub status_by : Option ExitRec → Option ℕ
-status_by (Some exit) = if exit.state == 2 then Some exit.value else None
+status_by (Some exit) = if tells_ended exit then Some exit.value else None
 status_by None = None
 
 abbrev pub next_by : Option HeadRec → ℕ

@@ -1,5 +1,5 @@
 -- The record of an open description.
-use Rattle.std.specs.Prelude.{◌≡◌, ℕ, ◌≤◌, ◌⊎◌, Bool, nat_le, ◌==◌, ◌&&◌, ◌||◌, List, length, slice_index, Option}
+use Rattle.std.specs.Prelude.{◌≡◌, ℕ, ◌/◌, ◌%◌, ◌≤◌, ◌⊎◌, Bool, nat_le, ◌==◌, ◌&&◌, ◌||◌, List, length, slice_index, Option}
 use Rattle.ow_base.specs.Seals.{AreWords, IsSealed}
 use Rattle.record_layouts.specs.Spelling.{AreZero, are_zero, is_sealed_record, lies_between, only_where}
 use Rattle.record_layouts.specs.declared.desc.DescRec.{DescRec}
@@ -31,6 +31,23 @@ pub record IsTerminalDesc (desc : DescRec) : Type 0 where
 -- the fields are in their ranges, and 0 where the object does not use them
 abbrev pub FitsDesc : DescRec → Type 0
 FitsDesc desc = IsClosedDesc desc ⊎ IsFileDesc desc ⊎ IsTerminalDesc desc
+
+-- the same as tests: it is open on nothing, on a file or on a terminal
+abbrev pub is_on_nothing : DescRec → Bool
+is_on_nothing desc = desc.object == 0
+
+abbrev pub is_on_file : DescRec → Bool
+is_on_file desc = desc.object == 1
+
+abbrev pub is_on_terminal : DescRec → Bool
+is_on_terminal desc = desc.object == 2
+
+-- mode 1 reads, 2 writes, 3 does both
+abbrev pub is_open_to_read : DescRec → Bool
+is_open_to_read desc = desc.mode % 2 == 1
+
+abbrev pub is_open_to_write : DescRec → Bool
+is_open_to_write desc = desc.mode / 2 == 1
 
 -- the words are the record of this value
 pub record IsDesc (words : List ℕ) (desc : DescRec) : Type 0 where

@@ -23,6 +23,13 @@ pub record IsEndedExit (exit : ExitRec) : Type 0 where
 abbrev pub FitsExit : ExitRec → Type 0
 FitsExit exit = IsUnusedExit exit ⊎ IsLiveExit exit ⊎ IsEndedExit exit
 
+-- the same as tests: the pid is that of a live process, or of one that has ended
+abbrev pub tells_live : ExitRec → Bool
+tells_live exit = exit.state == 1
+
+abbrev pub tells_ended : ExitRec → Bool
+tells_ended exit = exit.state == 2
+
 -- the words are the record of this value
 pub record IsExit (words : List ℕ) (exit : ExitRec) : Type 0 where
   pub long : length words ≡ 4

@@ -23,6 +23,10 @@ pub record FitsFile (file : FileRec) : Type 0 where
   pub sectors : All (λ sector. sector < 2048) (take file.kept file.sectors)
   pub past_kept : AreZero file.sectors file.kept 64
 
+-- there is a file
+abbrev pub is_present : FileRec → Bool
+is_present file = file.state == 1
+
 -- the words are the record of this file
 pub record IsFile (words : List ℕ) (file : FileRec) : Type 0 where
   pub long : length words ≡ 96

@@ -12,7 +12,7 @@ use Rattle.record_layouts.specs.declared.places.RecordId.TheVariants as id
 use Rattle.record_layouts.specs.Held.{Records}
 pub use Rattle.record_layouts.specs.Unix.Abort.{is_aborted, is_made_again, stands_at}
 use Rattle.record_layouts.specs.Unix.Choice.{is_any}
-use Rattle.record_layouts.specs.Pages.{frame_of, high_place, is_linked, is_live, low_place, region_of}
+use Rattle.record_layouts.specs.Pages.{frame_of, high_place, is_in_call, is_linked, is_live, low_place, region_of}
 
 -- what a panic hands over: the trap that broke, its process or 0, from where the processor came, and what it had of a
 -- program
@@ -63,7 +63,7 @@ left_rec handed head process =
 -- entered. Its number is in a7.
 unfoldable pub call_found : Option HandedOver → Option HeadRec → ProcRec → Option ℕ
 call_found handed head process =
-    if process.state == 2 then Some process.call else
+    if is_in_call process then Some process.call else
     if is_caller handed head process.pid then Some (register (left_rec handed head process).regs 17) else None
 
 -- what a panic left of the process in a slot that has this record

@@ -34,18 +34,19 @@ next_by_left r None = greatest_used r.exits most_pids + 1
 abbrev pub last_left : (pid last : ℕ) → ℕ
 last_left pid last = if pid == 0 then last else pid
 
--- Decode of the image that a panic left, with what was handed over: in the kernel, but for the process of the trap that
--- broke. It is the last one, and where the trap is undone it has the registers that were handed over.
+-- the state in which the process of the trap that broke is the last one, and where that trap is undone has the registers
+-- that were handed over
+abbrev pub with_left : HandedOver → Records → Unix → Unix
+with_left h r u = record u {
+  processes = λ pid. with_bank_left h r.head pid (u.processes pid);
+  next_pid = next_by_left r r.head;
+  last_pid = last_left h.pid u.last_pid;
+  position = AtPanic (caller_left h r.head);
+}
+
+-- Decode of the image that a panic left, with what was handed over; all else is as in the kernel
 unfoldable pub unix_left : Image → HandedOver → (steps traps : ℕ) → Unix
-unix_left i h steps traps =
-    let r = records_of_image i in
-    let u = unix_of_image i InKernel steps traps in
-    record u {
-      processes = λ pid. with_bank_left h r.head pid (u.processes pid);
-      next_pid = next_by_left r r.head;
-      last_pid = last_left h.pid u.last_pid;
-      position = AtPanic (caller_left h r.head);
-    }
+unix_left i h steps traps = with_left h (records_of_image i) (unix_of_image i InKernel steps traps)
 
 -- Wounds, of an image and of the same once words of it are hurt.
 

@@ -10,9 +10,18 @@ use Rattle.record_layouts.specs.declared.proc.ProcRec.{ProcRec}
 use Rattle.record_layouts.specs.Unix.State.{is_within}
 use Rattle.record_layouts.specs.Held.{Records}
 
--- the process goes on: it is outside a call or in one
+-- the states of a process: it is outside a call or in one, and then it goes on, or it has ended
+abbrev pub is_outside : ProcRec → Bool
+is_outside process = process.state == 1
+
+abbrev pub is_in_call : ProcRec → Bool
+is_in_call process = process.state == 2
+
 abbrev pub is_live : ProcRec → Bool
-is_live process = process.state == 1 || process.state == 2
+is_live process = is_outside process || is_in_call process
+
+abbrev pub has_ended : ProcRec → Bool
+has_ended process = process.state == 3
 
 -- the pages that the heap has
 abbrev pub heap_pages : ProcRec → ℕ

@@ -10,6 +10,7 @@ use crate::exit::ExitRec;
 use crate::file::FileRec;
 use crate::head::HeadRec;
 use crate::intent::{Area, Gate};
+use crate::layout::{CACHE_OWNERS, FIRST_TABLE, OWNERS, TABLES_OF_SLOT};
 use crate::memory_map::MemoryMap;
 use crate::places::{RecordId, address};
 use crate::proc::ProcRec;
@@ -18,16 +19,6 @@ use crate::sig::SigRec;
 use crate::term::TermRec;
 use crate::view::RecordView;
 use ow_base::{FRAME_WORDS, WordSource};
-
-// The first word that names the owner of a user frame, and the first that names the owner of a cache entry.
-const OWNERS: u32 = 10 * FRAME_WORDS;
-
-const CACHE_OWNERS: u32 = OWNERS + 960;
-
-// The first word of the page tables, and how many tables each slot has.
-const TABLES: u32 = 16 * FRAME_WORDS;
-
-const TABLES_OF_SLOT: u32 = 3;
 
 /// The records of the area that a map names, as memory has them, with a valid open intent laid over the area.
 ///
@@ -161,7 +152,7 @@ impl<W: WordSource> RecordView for AreaView<'_, W> {
     }
 
     fn table_word(&self, slot: u32, table: u32, word: u32) -> u32 {
-        self.area().overlaid(TABLES + FRAME_WORDS * (TABLES_OF_SLOT * slot + table) + word)
+        self.area().overlaid(FRAME_WORDS * (FIRST_TABLE + TABLES_OF_SLOT * slot + table) + word)
     }
 
     fn area_base(&self) -> u32 {

@@ -2,12 +2,15 @@
 
 ghost use Rattle.std.specs.Prelude.{◌≡◌, ◌≢◌, ℕ, ◌^◌, ◌<◌, ◌↔◌, List, slice_index, slice_set, IsTrue, IfSome, IfNone};
 ghost use Rattle.record_layouts.specs.declared.cache.CacheRec.{CacheRec};
-ghost use Rattle.record_layouts.specs.Cache.{IsCache, FitsCache, cache_in};
+ghost use Rattle.record_layouts.specs.Cache.{IsCache, FitsCache, cache_in, is_dirty};
 
 use crate::spelling::are_zero;
 use ow_base::{is_sealed, put_seal};
 
 const KIND: u32 = 0x4341_4348;
+
+// The state of an entry whose page was written to.
+const DIRTY: u32 = 2;
 
 /// An entry of the page cache: which page of which file it holds.
 ///
@@ -21,13 +24,20 @@ pub struct CacheRec {
 }
 
 impl CacheRec {
+    /// Its page was written to, and the disk does not have it so yet.
+    pub fn is_dirty(&self) -> bool
+        ensures { result ≡ is_dirty self.now }
+    {
+        self.state == DIRTY
+    }
+
     // The fields are in their ranges.
     fn fits(&self) -> bool
         ensures { IsTrue result ↔ FitsCache self.now }
     {
         match self.state {
             0 => self.file == 0 && self.page == 0,
-            1 | 2 => self.file <= 31 && self.page <= 63,
+            1 | DIRTY => self.file <= 31 && self.page <= 63,
             _ => false,
         }
     }

@@ -2,12 +2,17 @@
 
 ghost use Rattle.std.specs.Prelude.{◌≡◌, ◌≢◌, ℕ, ◌^◌, ◌<◌, ◌↔◌, List, slice_index, slice_set, IsTrue, IfSome, IfNone};
 ghost use Rattle.record_layouts.specs.declared.desc.DescRec.{DescRec};
-ghost use Rattle.record_layouts.specs.Desc.{IsDesc, FitsDesc, IsMode, desc_in};
+ghost use Rattle.record_layouts.specs.Desc.{IsDesc, FitsDesc, IsMode, desc_in, is_on_file, is_on_terminal};
 
 use crate::spelling::are_zero;
 use ow_base::{is_sealed, put_seal};
 
 const KIND: u32 = 0x4f50_454e;
+
+// What it is open on: a file or a terminal.
+const FILE: u32 = 1;
+
+const TERMINAL: u32 = 2;
 
 /// An open description: what a descriptor of a process stands for.
 ///
@@ -23,6 +28,20 @@ pub struct DescRec {
 }
 
 impl DescRec {
+    /// It is open on a file.
+    pub fn is_on_file(&self) -> bool
+        ensures { result ≡ is_on_file self.now }
+    {
+        self.object == FILE
+    }
+
+    /// It is open on a terminal.
+    pub fn is_on_terminal(&self) -> bool
+        ensures { result ≡ is_on_terminal self.now }
+    {
+        self.object == TERMINAL
+    }
+
     // It is open to read, to write or for both.
     fn has_mode(&self) -> bool
         ensures { IsTrue result ↔ IsMode self.now.mode }
@@ -36,8 +55,8 @@ impl DescRec {
     {
         match self.object {
             0 => self.index == 0 && self.mode == 0 && self.offset == 0,
-            1 => self.index <= 31 && self.has_mode(),
-            2 => self.index <= 1 && self.has_mode() && self.offset == 0,
+            FILE => self.index <= 31 && self.has_mode(),
+            TERMINAL => self.index <= 1 && self.has_mode() && self.offset == 0,
             _ => false,
         }
     }

@@ -2,12 +2,17 @@
 
 ghost use Rattle.std.specs.Prelude.{◌≡◌, ◌≢◌, ℕ, ◌^◌, ◌<◌, ◌↔◌, List, slice_index, slice_set, IsTrue, IfSome, IfNone};
 ghost use Rattle.record_layouts.specs.declared.exit.ExitRec.{ExitRec};
-ghost use Rattle.record_layouts.specs.Exit.{IsExit, FitsExit, exit_in};
+ghost use Rattle.record_layouts.specs.Exit.{IsExit, FitsExit, exit_in, tells_ended, tells_live};
 
 use crate::spelling::is_status;
 use ow_base::{is_sealed, put_seal};
 
 const KIND: u32 = 0x4558_4954;
+
+// The state of a pid whose process is live, and of one whose process has ended.
+const LIVE: u32 = 1;
+
+const ENDED: u32 = 2;
 
 /// What became of a pid.
 ///
@@ -20,14 +25,28 @@ pub struct ExitRec {
 }
 
 impl ExitRec {
+    /// The pid is that of a live process.
+    pub fn is_live(&self) -> bool
+        ensures { result ≡ tells_live self.now }
+    {
+        self.state == LIVE
+    }
+
+    /// The pid is that of a process that has ended.
+    pub fn has_ended(&self) -> bool
+        ensures { result ≡ tells_ended self.now }
+    {
+        self.state == ENDED
+    }
+
     // The fields are in their ranges.
     fn fits(&self) -> bool
         ensures { IsTrue result ↔ FitsExit self.now }
     {
         match self.state {
             0 => self.value == 0,
-            1 => self.value <= 15,
-            2 => is_status(self.value),
+            LIVE => self.value <= 15,
+            ENDED => is_status(self.value),
             _ => false,
         }
     }

@@ -4,13 +4,16 @@ ghost use Rattle.std.specs.Prelude.{◌≡◌, ◌≢◌, ℕ, ◌^◌, ◌<◌,
 ghost use Rattle.record_layouts.specs.declared.file.FileRec.{FileRec};
 ghost use Rattle.ow_base.specs.World.{IsName};
 ghost use Rattle.record_layouts.specs.Spelling.{AreZero};
-ghost use Rattle.record_layouts.specs.File.{FitsState, FitsFile, IsFile, file_in, file_on_disk};
+ghost use Rattle.record_layouts.specs.File.{FitsState, FitsFile, IsFile, file_in, file_on_disk, is_present};
 
 use crate::packing::{pack, unpack};
 use crate::spelling::are_zero;
 use ow_base::{is_sealed, put_seal};
 
 const KIND: u32 = 0x4649_4c45;
+
+// The state of a file that there is.
+const PRESENT: u32 = 1;
 
 // The most bytes of a name.
 const NAME_BYTES: usize = 24;
@@ -37,6 +40,13 @@ pub struct FileRec {
 }
 
 impl FileRec {
+    /// There is a file.
+    pub fn is_present(&self) -> bool
+        ensures { result ≡ is_present self.now }
+    {
+        self.state == PRESENT
+    }
+
     /// The words of the record. The fields are in their ranges.
     pub fn to_words(&self) -> [u32; 96]
         requires { FitsFile self.now }

@@ -6,10 +6,8 @@
 ghost use Rattle.std.specs.Prelude.{◌≡◌, ℕ, ◌+◌, ◌-◌, ◌*◌, ◌^◌, ◌<◌, ◌≤◌, true, IfSome, IfNone, None, is_some, length};
 ghost use Rattle.record_layouts.specs.Overlay.{EndsOpen, StandsFirst, area_at, gate_of, intent_seal, is_within, laid, lies_in, may_change, open_ranges, or_none, overlay, ranges_in, values_end, words_from};
 
+use crate::layout::AREA_FRAMES;
 use ow_base::{FRAME_WORDS, WordSource, seal};
-
-// The frames of an area.
-const FRAMES: u32 = 64;
 
 /// The word of an area that is the gate.
 pub const GATE: u32 = 16;
@@ -272,7 +270,7 @@ impl<W: WordSource> Area<'_, W> {
         let first = self.word(place + 1);
         let count = self.word(place + 2);
         let values = place + RANGE_HEAD;
-        if frame >= FRAMES || first >= FRAME_WORDS || count > end - values {
+        if frame >= AREA_FRAMES || first >= FRAME_WORDS || count > end - values {
             return None;
         }
         let begin = FRAME_WORDS * frame + first;

@@ -13,6 +13,8 @@ mod fates;
 mod file;
 mod head;
 mod intent;
+mod layout;
+mod left_laws;
 mod memory_map;
 mod overlay;
 mod overlay_laws;
@@ -38,6 +40,13 @@ pub use fates::Fate;
 pub use file::{FileRec, files_are_spelled_once};
 pub use head::{HeadRec, heads_are_spelled_once};
 pub use intent::{Change, GATE, Gate, INTENT_KIND, PAYLOAD, SEAL, Span};
+pub use layout::{
+    AREA_FRAMES, CACHE_ENTRIES, CACHE_OWNERS, CODE_PAGE, FIRST_TABLE, KERNEL_FRAMES, OWNERS,
+    PIDS_END, ROWS, SLOTS, STACK_PAGE, STACK_PAGES, TABLES_OF_SLOT,
+};
+pub use left_laws::{
+    alike_images_say_the_same, left_processes_are_of_the_unix, whole_images_have_no_wounds,
+};
 pub use memory_map::MemoryMap;
 pub use overlay::{change_at, gate, open_end, overlaid};
 pub use overlay_laws::{intents_are_read, other_words_stay, the_block_decides};

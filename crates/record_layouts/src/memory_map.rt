@@ -3,12 +3,8 @@ ghost use Rattle.std.specs.Prelude.{◌≡◌, ◌≤◌};
 ghost use Rattle.record_layouts.specs.Halves.{half_map};
 ghost use Rattle.record_layouts.specs.Reading.{FitsMap};
 
+use crate::layout::{AREA_FRAMES, KERNEL_FRAMES};
 use ow_base::AreaId;
-
-// The frames of an area, which the cache follows, and those of both, which the user frames follow.
-const AREA_FRAMES: u32 = 64;
-
-const KERNEL_FRAMES: u32 = 128;
 
 /// Where in memory the frames of a kernel begin, and how many frames and sectors there are.
 ///

@@ -2,6 +2,7 @@
 
 ghost use Rattle.std.specs.Prelude.{◌≡◌, ◌≢◌, ℕ, ◌+◌, ◌^◌, ◌<◌, ◌≤◌, ◌↔◌, List, length, take, drop, slice_index, slice_set, EachIndex, IsTrue, IfSome, IfNone};
 ghost use Rattle.record_layouts.specs.declared.proc.ProcRec.{ProcRec};
+ghost use Rattle.record_layouts.specs.Pages.{has_ended, is_in_call, is_live, is_outside};
 ghost use Rattle.record_layouts.specs.Proc.{heap_start, IsBlankBank, FitsLive, IsOver, FitsFree, FitsEnded, FitsProc, IsBankAt, IsFront, IsProc, proc_in};
 
 use crate::spelling::{are_zero, is_status};
@@ -146,6 +147,34 @@ fn are_descs(descs: &[u32]) -> bool
 }
 
 impl ProcRec {
+    /// The process is outside a call.
+    pub fn is_outside(&self) -> bool
+        ensures { result ≡ is_outside self.now }
+    {
+        self.state == OUTSIDE
+    }
+
+    /// The process is in a call.
+    pub fn is_in_call(&self) -> bool
+        ensures { result ≡ is_in_call self.now }
+    {
+        self.state == IN_CALL
+    }
+
+    /// The process goes on: it is outside a call or in one.
+    pub fn is_live(&self) -> bool
+        ensures { result ≡ is_live self.now }
+    {
+        self.is_outside() || self.is_in_call()
+    }
+
+    /// The process has ended.
+    pub fn has_ended(&self) -> bool
+        ensures { result ≡ has_ended self.now }
+    {
+        self.state == ENDED
+    }
+
     // Nothing is left but pid, parent and status.
     fn is_over(&self) -> bool
         ensures { IsTrue result ↔ IsOver self.now }

@@ -10,8 +10,8 @@ ghost use Rattle.tty_screen.specs.Drawing.{CountsByte, DrawsByte, HasItsPlace, I
 ghost use Rattle.tty_screen.specs.Shown.{TerminalDecodes, row_number};
 ghost use Rattle.tty_screen.specs.Strokes.{blank_record, cursor_after, row_items, scrolls, top_after, with_byte};
 
-use crate::ring::{ROWS, record_of_row};
-use record_layouts::{AnyRec, Patch, RecordId, RecordView, RowRec, TermRec};
+use crate::ring::record_of_row;
+use record_layouts::{AnyRec, Patch, ROWS, RecordId, RecordView, RowRec, TermRec};
 
 const BLANK_ROW: [u8; 80] = [b' '; 80];
 

@@ -2,8 +2,7 @@
 ghost use Rattle.std.specs.Prelude.{◌≡◌, ◌<◌};
 ghost use Rattle.tty_screen.specs.Shown.{row_number};
 
-/// The rows of a display.
-pub(crate) const ROWS: u32 = 24;
+use record_layouts::ROWS;
 
 /// The number of the record of a row of the display. `top` is the place of the top row in the ring.
 pub(crate) fn record_of_row(tty: u32, top: u32, r: u32) -> u32

@@ -8,17 +8,7 @@ ghost use Rattle.kernel_traps.specs.Boot.{pages_before};
 use super::records::{boot_record, pages_for, program_at};
 use kernel_builder::{Blueprint, Holder, Placed};
 use ow_base::{FRAME_WORDS, Load, Program, Rights};
-use record_layouts::{AnyRec, RecordId};
-
-// The words of a page.
-// The pages where code begins and where the four pages of stack begin and end.
-const CODE_PAGE: u32 = 16;
-
-const STACK_PAGE: u32 = 0x7fffc;
-
-const STACK_END: u32 = 0x80000;
-
-const STACK_PAGES: u32 = 4;
+use record_layouts::{AnyRec, CODE_PAGE, RecordId, STACK_PAGE, STACK_PAGES};
 
 // The pages of code and data.
 fn count_low(program: &Program) -> u32
@@ -39,7 +29,7 @@ fn number_of(program: &Program, page: u32) -> Option<u32>
     let low = count_low(program);
     if page >= CODE_PAGE && page < CODE_PAGE + low {
         Some(page - CODE_PAGE)
-    } else if page >= STACK_PAGE && page < STACK_END {
+    } else if page >= STACK_PAGE && page < STACK_PAGE + STACK_PAGES {
         Some(low + (page - STACK_PAGE))
     } else {
         None
