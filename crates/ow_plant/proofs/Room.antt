@@ -37,11 +37,6 @@ pub put_back : (m : MemoryParts) (live : AreaId) (words : List ℕ) → with_own
 put_back m A words = refl
 put_back m B words = refl
 
--- a half that lies apart, where another lay before
-pub own_of : (m : MemoryParts) (live : AreaId) (words : List ℕ) → own_half (with_own m live words) live ≡ words
-own_of m A words = refl
-own_of m B words = refl
-
 -- what a plant that is armed fits does not speak of its memory
 fits_armed : (user_frames : ℕ) (m n : MemoryParts) (armed : Bool) → armed ≡ true → FitsShape armed user_frames m → FitsShape armed user_frames n
 fits_armed user_frames m n armed is f = record {
