@@ -1,13 +1,16 @@
 -- A plant of which a part is lent.
-use Rattle.std.proofs.Common.{◌≡◌, ℕ, ◌+◌, ◌-◌, ◌*◌, ◌<◌, ◌==◌, Bool, true, false, if◌then◌else◌, List, length, slice_set, refl, sym, ap, ◌∙◌}
-use Rattle.std.proofs.lemmas.List.{length-set}
+use Rattle.std.proofs.Common.{◌≡◌, ℕ, ◌+◌, ◌-◌, ◌*◌, ◌<◌, ◌==◌, Bool, true, false, if◌then◌else◌, List, ◌++◌, drop, length, slice_set, take, Some, refl, sym, ap, ◌∙◌, arith, take_all}
+use Rattle.std.proofs.lemmas.List.{length-set, take-append-le}
 use Rattle.ow_base.specs.declared.machine.AreaId.{AreaId}
 use Rattle.ow_base.specs.declared.machine.AreaId.TheVariants.{A, B}
+use Rattle.panic_handover.specs.HandOver.{hand_over_in}
+use Rattle.panic_handover.proofs.Reading.{hand_over_read}
 use Rattle.phys_memory.specs.Halves.{first_own, is_among, is_own, own_half, with_own, words_beside, words_from}
 use Rattle.phys_memory.specs.Memory.{IsSized, MemoryParts, with_word, words_of}
 use Rattle.phys_memory.proofs.Own.{AreWholeFrames-sized, with_own-same, with_own-set, words_beside-own, words_of-own}
 use Rattle.ow_plant.specs.Lent.{LentState, lent_counted, lent_cursor_at, lent_of, lent_painted, lent_put, lent_stored, with_lent}
-use Rattle.ow_plant.specs.State.{Device, IsArmed, PlantState, counted, painted, put_on, with_cursor, with_cursor_at, with_painted, with_put, with_stored}
+use Rattle.ow_plant.proofs.Armed.{IsArmed-panicked}
+use Rattle.ow_plant.specs.State.{Device, EntersPanic, IsArmed, PlantState, counted, handed_over, painted, put_on, with_cursor, with_cursor_at, with_painted, with_put, with_stored}
 
 -- with as many words in the half that is not dead, memory keeps its size
 own_sized : (u : ℕ) (m : MemoryParts) (dead : AreaId) (words : List ℕ) → IsSized u m → length words ≡ length (own_half m dead) → IsSized u (with_own m dead words)
@@ -67,3 +70,12 @@ own_of m B words = refl
 
 pub lent_again : (s : PlantState) (lent : LentState) → lent_of (with_lent s lent) ≡ lent
 lent_again s lent = ap (λ (words : List ℕ). record lent { own = words }) (own_of s.memory s.live lent.own)
+
+-- the words that a panic sets first are read as what it handed over
+pub read_again : (old new : PlantState) → EntersPanic old new → hand_over_in (take 40 new.memory.boot) ≡ Some (handed_over old)
+read_again old new enters =
+    let first : take 40 (enters.words ++ drop (length enters.words) old.memory.boot) ≡ enters.words = take-append-le 40 enters.words _ (omega (arith, enters.spelled.long)) ∙ take_all 40 enters.words (omega (arith, enters.spelled.long)) in
+    ap (λ (s : PlantState). hand_over_in (take 40 s.memory.boot)) enters.after ∙ ap hand_over_in first ∙ hand_over_read enters.words (handed_over old) enters.spelled
+
+pub armed_again : (old new : PlantState) → EntersPanic old new → IsArmed old → IsArmed new
+armed_again = IsArmed-panicked

@@ -1,9 +1,10 @@
 //! What holds of a plant of which a part is lent. The functions do nothing: their contracts are the laws.
-ghost use Rattle.std.specs.Prelude.{◌≡◌, ℕ, ◌<◌, if◌then◌else◌, true, List, length};
+ghost use Rattle.std.specs.Prelude.{◌≡◌, ℕ, ◌<◌, if◌then◌else◌, true, List, length, take, Some};
+ghost use Rattle.panic_handover.specs.HandOver.{hand_over_in};
 ghost use Rattle.phys_memory.specs.Halves.{first_own, is_among, is_own, own_half, words_beside, words_from};
 ghost use Rattle.phys_memory.specs.Memory.{words_of};
 ghost use Rattle.ow_plant.specs.Lent.{LentState, lent_cursor_at, lent_of, lent_painted, lent_put, lent_refused, lent_refuses, lent_stored, with_lent};
-ghost use Rattle.ow_plant.specs.State.{IsArmed, PlantState, refuses, store_refused, with_cursor_at, with_painted, with_put, with_stored};
+ghost use Rattle.ow_plant.specs.State.{EntersPanic, IsArmed, PlantState, handed_over, refuses, store_refused, with_cursor_at, with_painted, with_put, with_stored};
 ghost use Rattle.ow_plant.specs.declared.refusal.Refusal.TheVariants.{Store};
 
 /// What a kernel that takes over stores into what is lent is what the plant's own calls store: the same changes, counted
@@ -39,4 +40,11 @@ pub const fn dead_words_stay()
 pub const fn what_is_lent_is_given_back()
     ensures unchanged { (s : PlantState) → with_lent s (lent_of s) ≡ s }
     ensures again { (s : PlantState) (lent : LentState) → lent_of (with_lent s lent) ≡ lent }
+{}
+
+/// What a panic hands over is read again, and it leaves the plant armed.
+#[tactic(auto, using(crate::proofs::Loans::armed_again))]
+pub const fn panics_hand_over()
+    ensures read { (old new : PlantState) → EntersPanic old new → hand_over_in (take 40 new.memory.boot) ≡ Some (handed_over old) }
+    ensures armed { (old new : PlantState) → EntersPanic old new → IsArmed old → IsArmed new }
 {}
