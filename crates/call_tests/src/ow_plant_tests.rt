@@ -1,11 +1,13 @@
 //! Tests of the plant: displays, page tables that lead anywhere, and points at which it refuses.
 
-ghost use Rattle.std.specs.Prelude.{◌≡◌, ◌≤◌, ◌<◌, true, IfOk};
-ghost use Rattle.ow_plant.specs.State.{silent_device};
+ghost use Rattle.std.specs.Prelude.{◌≡◌, ◌≤◌, ◌<◌, true, false, length, IfOk};
+ghost use Rattle.ow_base.specs.declared.machine.AreaId.TheVariants.{A};
+ghost use Rattle.phys_memory.specs.Halves.{words_beside};
+ghost use Rattle.ow_plant.specs.State.{IsArmed, silent_device};
 
 use crate::machines::point;
-use ow_base::{Bank, Came, Fault, Regs, Shape, WordSource};
-use ow_plant::{Plant, UserEnd};
+use ow_base::{AreaId, Bank, Came, Fault, Regs, Shape, WordSource};
+use ow_plant::{DeadMemory, HandOver, Own, Plant, UserEnd};
 use std::alloc::{AllocError, Global};
 use std::test::Fail;
 
@@ -259,6 +261,180 @@ fn points_refuse(rt: HostRuntime) -> Result<(), Fail> {
             goes_on,
         };
         assert_eq!(rt; two_traps(rt.alloc(), trap, store)?, wanted);
+    }
+    Ok(())
+}
+
+/// The processor of a program that made a call.
+fn calling() -> Bank {
+    let mut regs = Regs::new();
+    regs.set(17, 2);
+    Bank { pc: 0x10010, regs }
+}
+
+/// A machine in whose trap 1, a call of process 3, so many stores are made before the first that is refused: a word is set
+/// in each half, and a byte is written on terminal 1. The end of the trap is refused, then or else.
+fn broken(alloc: Global, store: u32) -> Result<Plant, AllocError>
+    ensures armed { IfOk result IsArmed }
+    ensures runs { IfOk result (λ plant. plant.reviving ≡ false) }
+    ensures area { IfOk result (λ plant. plant.live ≡ A) }
+    ensures room { IfOk result (λ plant. plant.tty1.room ≡ 160) }
+    ensures few { IfOk result (λ plant. length plant.tty1.tape ≤ 1) }
+{
+    let mut plant = Plant::new(alloc);
+    let points = [point(1, store), point(2, 0)];
+    plant.arm(alloc, SHAPE, &[], &[], &points)?;
+    plant.to_user(3, &calling(), ROOT);
+    plant.enter(Came::Call, 3);
+    let _ = plant.store(CODE, 5, 77);
+    let _ = plant.store(OWN, 5, 78);
+    let _ = plant.put(1, b'x');
+    Ok(plant)
+}
+
+/// A frame for pages of half B.
+const OWN: u32 = 273;
+
+/// Enters the panic, where the end of the trap is refused.
+fn panicked(plant: &mut Plant) -> bool
+    requires armed { IsArmed plant.old }
+    requires runs { plant.old.reviving ≡ false }
+    requires area { plant.old.live ≡ A }
+    requires room { plant.old.tty1.room ≡ 160 }
+    requires few { length plant.old.tty1.tape ≤ 1 }
+    ensures armed { IsArmed plant.new }
+    ensures area { plant.new.live ≡ A }
+    ensures revives { result ≡ true → plant.new.reviving ≡ true }
+    ensures room { plant.new.tty1.room ≡ 160 }
+    ensures few { length plant.new.tty1.tape ≤ 1 }
+{
+    if plant.leave().is_ok() {
+        return false;
+    }
+    plant.panic_entry();
+    true
+}
+
+/// What the dead kernel's words say at some places, and what the machine tells beside them.
+#[derive(Clone, Copy, Debug, PartialEq, Eq)]
+struct Remains {
+    /// The first word of memory, that of the dead half, and that of the other one.
+    words: (Option<u32>, Option<u32>, Option<u32>),
+    counts: (u32, u32),
+    handover: Option<HandOver>,
+    area: AreaId,
+    frames: u32,
+}
+
+fn read_all<M: DeadMemory>(memory: &M) -> Remains {
+    Remains {
+        words: (
+            memory.load(0, 0),
+            memory.load(CODE, 5),
+            memory.load(OWN, 5),
+        ),
+        counts: (memory.count(0), memory.count(1)),
+        handover: memory.handover(),
+        area: memory.area(),
+        frames: memory.user_frames(),
+    }
+}
+
+/// Makes one store of each kind in what is lent, and tells what was left for reading meanwhile, and what of the own half
+/// can be read; or `None`, where a store is refused. What is left stays as it was.
+#[tactic(auto, unfolding(phys_memory::specs::Memory::words_of))]
+fn revived(plant: &mut Plant) -> Option<(Remains, (Option<u32>, Option<u32>))>
+    requires armed { IsArmed plant.old }
+    requires revives { plant.old.reviving ≡ true }
+    requires area { plant.old.live ≡ A }
+    requires room { plant.old.tty1.room ≡ 160 }
+    requires few { length plant.old.tty1.tape ≤ 1 }
+    ensures armed { IsArmed plant.new }
+    ensures area { plant.new.live ≡ A }
+    ensures revives { plant.new.reviving ≡ true }
+    ensures dead { words_beside plant.new.memory A ≡ words_beside plant.old.memory A }
+{
+    let (dead, own) = plant.resurrection();
+    let Own { lent, place } = own;
+    let mut own = Own { lent, place };
+    if !own.has_frame(OWN) {
+        return None;
+    }
+    own.store(OWN, 7, 9).ok()?;
+    own.put(1, b'y').ok()?;
+    own.paint(0, 3, &[b'r'; 80]).ok()?;
+    own.cursor(0, 4, 5).ok()?;
+    Some((read_all(&dead), (own.load(OWN, 7), own.load(CODE, 5))))
+}
+
+/// What is seen of terminal 0 at a row and of its cursor, and of terminal 1 at its first place.
+#[derive(Clone, Copy, Debug, PartialEq, Eq)]
+struct Sights {
+    row: u8,
+    cursor: (u32, u32),
+    first: u8,
+}
+
+fn seen(plant: &Plant) -> Sights
+    requires { plant.now.armed ≡ true }
+{
+    Sights {
+        row: plant.display(0).row(3)[79],
+        cursor: plant.display(0).at(),
+        first: plant.display(1).row(0)[0],
+    }
+}
+
+/// A store of trap 1 that is refused; how many were made and whether the end of the trap was refused; the words of the two
+/// halves, and the bytes written on terminal 1.
+const PANICS: [(u32, u32, bool, (u32, u32), u32); 5] = [
+    (0, 0, false, (0, 0), 0),
+    (1, 1, false, (77, 0), 0),
+    (2, 2, false, (77, 78), 0),
+    (3, 3, true, (77, 78), 1),
+    (9, 3, true, (77, 78), 1),
+];
+
+#[test]
+fn panics_are_entered_and_ended(rt: HostRuntime) -> Result<(), Fail> {
+    for (listed, store, at_leave, (dead, own), written) in PANICS {
+        let mut plant = broken(rt.alloc(), listed)?;
+        assert!(rt; panicked(&mut plant));
+        assert_eq!(rt; plant.stores_made(), 0);
+        assert_eq!(rt; seen(&plant), Sights { row: b' ', cursor: (0, 0), first: b' ' });
+        let handover = HandOver {
+            trap: 1,
+            pid: 3,
+            came: Came::Call,
+            bank: calling(),
+        };
+        let left = Remains {
+            words: (Some(0x4841_4e44), Some(dead), None),
+            counts: (0, written),
+            handover: Some(handover),
+            area: AreaId::A,
+            frames: 16,
+        };
+        assert_eq!(rt; revived(&mut plant), Some((left, (Some(9), None))));
+        let revived_to = Sights { row: b'r', cursor: (4, 5), first: b'y' };
+        assert_eq!(rt; seen(&plant), revived_to);
+        assert_eq!(rt; plant.stores_made(), 4);
+        assert_eq!(rt; plant.tape(1).len(), written as usize + 1);
+        assert_eq!(rt; WordSource::load(&plant, OWN, 7), Some(9));
+        assert_eq!(rt; WordSource::load(&plant, CODE, 5), Some(dead));
+        assert!(rt; plant.set_live(AreaId::B).is_ok());
+        assert_eq!(rt; plant.live(), AreaId::B);
+        assert_eq!(rt; WordSource::load(&plant, OWN, 7), Some(9));
+        let [entry] = plant.history() else {
+            panic!(rt; "not one panic");
+        };
+        assert_eq!(rt; (entry.trap, entry.store, entry.listed), (1, store, listed));
+        assert_eq!(rt; (entry.at_leave, entry.pid, entry.tapes), (at_leave, 3, [0, written]));
+        let recorded = Remains { words: (left.words.0, left.words.1, Some(own)), ..left };
+        assert_eq!(rt; read_all(entry), recorded);
+        plant.enter(Came::Kernel, 1);
+        assert!(rt; plant.cursor(0, 0, 0).is_err());
+        assert_eq!(rt; plant.display(0).at(), (4, 5));
     }
     Ok(())
 }

@@ -1,8 +1,9 @@
 -- A plant that is armed stays armed, with memory of its size.
-use Rattle.std.proofs.Common.{◌≡◌, ℕ, ◌^◌, ◌<◌, ◌≤◌, ◌==◌, if◌then◌else◌, Bool, true, false, List, Result, Ok, Err, MatchBool, refl, sym, subst, ap}
+use Rattle.std.proofs.Common.{◌≡◌, ℕ, ◌+◌, ◌*◌, ◌^◌, ◌<◌, ◌≤◌, ◌==◌, if◌then◌else◌, Bool, true, false, List, ◌++◌, drop, length, Result, Ok, Err, MatchBool, refl, sym, subst, ap, ◌∙◌, arith, length-append, length-drop}
 use Rattle.ow_base.specs.Sv32.{written_at, sv32_space, translated}
 use Rattle.ow_base.specs.UserStep.{Stepped, Next, Call, Faulted, user_step}
 use Rattle.ow_base.specs.declared.machine.Access.TheVariants.{Store}
+use Rattle.ow_base.specs.declared.machine.AreaId.{AreaId}
 use Rattle.ow_base.specs.declared.machine.Bank.{Bank}
 use Rattle.ow_base.specs.declared.machine.Came.{Came}
 use Rattle.ow_base.specs.declared.machine.PageCause.{PageCause}
@@ -10,9 +11,9 @@ use Rattle.ow_base.specs.declared.machine.Phys.{Phys}
 use Rattle.ow_base.specs.declared.machine.Shape.{Shape}
 use Rattle.ow_base.specs.declared.machine.Width.{Width}
 use Rattle.ow_base.proofs.Simulations.{FollowsStore, Follows, Alike, follows}
-use Rattle.phys_memory.specs.Memory.{IsSized, words_of, with_word}
+use Rattle.phys_memory.specs.Memory.{IsSized, MemoryParts, words_of, with_first, with_word}
 use Rattle.phys_memory.proofs.Words.{IsSized-set, IsSized-zeroed}
-use Rattle.ow_plant.specs.State.{PlantState, Seen, seen_space, seen_by, IsReady, IsArmed, StepsAs, TakesUserTurn, store_refused, leave_refused, with_stored, with_put, entered, left_trap, returned_to}
+use Rattle.ow_plant.specs.State.{PlantState, Seen, seen_space, seen_by, EntersPanic, IsReady, IsArmed, StepsAs, TakesUserTurn, store_refused, leave_refused, with_stored, with_put, with_painted, with_cursor_at, with_live, entered, left_trap, returned_to}
 use Rattle.ow_plant.specs.declared.UserEnd.{UserEnd}
 use Rattle.ow_plant.specs.declared.UserEnd.TheVariants as end
 
@@ -45,6 +46,33 @@ IsArmed-put s tty byte is =
     either (tty == 0) _ _
     (record { armed = is.armed; sized = is.sized; few_frames = is.few_frames })
     (record { armed = is.armed; sized = is.sized; few_frames = is.few_frames })
+
+pub IsArmed-painted : (s : PlantState) (tty row : ℕ) (text : List ℕ) → IsArmed s → IsArmed (with_painted s tty row text)
+IsArmed-painted s tty row text is =
+    either (tty == 0) _ _
+    (record { armed = is.armed; sized = is.sized; few_frames = is.few_frames })
+    (record { armed = is.armed; sized = is.sized; few_frames = is.few_frames })
+
+pub IsArmed-cursor_at : (s : PlantState) (tty row col : ℕ) → IsArmed s → IsArmed (with_cursor_at s tty row col)
+IsArmed-cursor_at s tty row col is =
+    either (tty == 0) _ _
+    (record { armed = is.armed; sized = is.sized; few_frames = is.few_frames })
+    (record { armed = is.armed; sized = is.sized; few_frames = is.few_frames })
+
+-- the first words of the boot frame are set in memory of the same size
+pub first_sized : (user_frames : ℕ) (m : MemoryParts) (words : List ℕ) → length words ≡ 40 → IsSized user_frames m → IsSized user_frames (with_first m words)
+first_sized user_frames m words few s = record {
+  boot = length-append words (drop (length words) m.boot) ∙ ap (λ (n : ℕ). length words + n) (length-drop (length words) m.boot) ∙ rw (few, s.boot) (omega arith);
+  a = s.a;
+  b = s.b;
+}
+
+pub IsArmed-panicked : (old new : PlantState) → EntersPanic old new → IsArmed old → IsArmed new
+IsArmed-panicked old new enters is =
+    subst IsArmed (sym enters.after) (record { armed = is.armed; sized = first_sized old.shape.user_frames old.memory enters.words enters.spelled.long is.sized; few_frames = is.few_frames })
+
+pub IsArmed-live : (s : PlantState) (area : AreaId) → IsArmed s → IsArmed (with_live s area)
+IsArmed-live s area is = record { armed = is.armed; sized = is.sized; few_frames = is.few_frames }
 
 pub IsArmed-entered : (s : PlantState) (how : Came) (pid : ℕ) → IsArmed s → IsArmed (entered s how pid)
 IsArmed-entered s how pid is = record { armed = is.armed; sized = is.sized; few_frames = is.few_frames }

@@ -17,6 +17,7 @@ use Rattle.ow_plant.specs.declared.past.Told.{Told}
 use Rattle.ow_plant.specs.declared.points.PanicPoint.{PanicPoint}
 use Rattle.ow_plant.specs.declared.refusal.Refusal.{Refusal}
 use Rattle.ow_plant.specs.declared.refusal.Refusal.TheVariants as refusal
+use Rattle.ow_plant.proofs.Armed.{first_sized}
 use Rattle.ow_plant.proofs.Coming.{come_in, come_later, come_past, coming_points_of, fewer_coming, some_coming}
 
 -- how many words memory of a size has
@@ -24,23 +25,10 @@ length_sized : (user_frames : ℕ) (m : MemoryParts) → IsSized user_frames m �
 length_sized user_frames m s =
     length-append m.boot (m.a ++ m.b) ∙ ap (λ (n : ℕ). length m.boot + n) (length-append m.a m.b) ∙ rw (s.boot, s.a, s.b) (omega arith)
 
--- the first words of the boot frame are set in memory of the same size
-first_sized : (user_frames : ℕ) (m : MemoryParts) (words : List ℕ) → length words ≡ 40 → IsSized user_frames m → IsSized user_frames (with_first m words)
-first_sized user_frames m words few s = record {
-  boot = length-append words (drop (length words) m.boot) ∙ ap (λ (n : ℕ). length words + n) (length-drop (length words) m.boot) ∙ rw (few, s.boot) (omega arith);
-  a = s.a;
-  b = s.b;
-}
-
 -- memory in which a half lies apart, and is put back
 pub put_back : (m : MemoryParts) (live : AreaId) (words : List ℕ) → with_own (with_own m live words) live (own_half m live) ≡ m
 put_back m A words = refl
 put_back m B words = refl
-
--- a half that lies apart, where another lay before
-pub own_of : (m : MemoryParts) (live : AreaId) (words : List ℕ) → own_half (with_own m live words) live ≡ words
-own_of m A words = refl
-own_of m B words = refl
 
 -- what a plant that is armed fits does not speak of its memory
 fits_armed : (user_frames : ℕ) (m n : MemoryParts) (armed : Bool) → armed ≡ true → FitsShape armed user_frames m → FitsShape armed user_frames n

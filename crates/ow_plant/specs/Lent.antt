@@ -7,7 +7,6 @@ use Rattle.ow_plant.specs.Points.{is_past}
 use Rattle.ow_plant.specs.State.{Device, PlantState, first_refusal, painted, put_on, risen, risen_far, silent_device, with_cursor}
 use Rattle.ow_plant.specs.declared.points.PanicPoint.{PanicPoint}
 use Rattle.ow_plant.specs.declared.refusal.Refusal.{Refusal}
-use Rattle.ow_plant.specs.declared.refusal.Refusal.TheVariants as refusal
 
 -- the words of the half that is not live; the terminals, which have room for 16 bytes a step of the budget; the counts of
 -- stores; and what was refused

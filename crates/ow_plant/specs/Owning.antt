@@ -1,5 +1,5 @@
 -- What a plant lends after a panic: what the dead kernel left, and what another one may change.
-use Rattle.std.specs.Prelude.{◌≡◌, ℕ, ◌==◌, Bool, if◌then◌else◌, length, min, take, None}
+use Rattle.std.specs.Prelude.{◌≡◌, ◌==◌, Bool, if◌then◌else◌, length, min, take, None}
 use Rattle.ow_base.specs.Sv32.{WordMap}
 use Rattle.panic_handover.specs.HandOver.{hand_over_in}
 use Rattle.phys_memory.specs.Halves.{first_own, words_from}

@@ -1,5 +1,5 @@
 -- The panics that a plant is armed with.
-use Rattle.std.specs.Prelude.{◌≡◌, ℕ, ◌+◌, ◌<◌, ◌≤◌, Bool, true, false, nat_le, ◌==◌, ◌&&◌, ◌||◌, not, if◌then◌else◌, List, [], ◌∷◌, map, length}
+use Rattle.std.specs.Prelude.{◌≡◌, ℕ, ◌+◌, ◌<◌, ◌≤◌, Bool, false, nat_le, ◌==◌, ◌&&◌, ◌||◌, not, if◌then◌else◌, List, [], ◌∷◌, map, length}
 use Rattle.std.specs.List.{All, AllPairs}
 use Rattle.ow_base.specs.declared.worlds.Point.{Point}
 use Rattle.ow_plant.specs.declared.points.PanicPoint.{PanicPoint}

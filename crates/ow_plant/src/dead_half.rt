@@ -52,11 +52,7 @@ impl DeadMemory for Dead<'_> {
     }
 
     fn count(&self, tty: u32) -> u32 {
-        if tty == 0 {
-            self.count0
-        } else {
-            self.count1
-        }
+        if tty == 0 { self.count0 } else { self.count1 }
     }
 
     fn handover(&self) -> Option<HandOver> {

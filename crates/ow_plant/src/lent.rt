@@ -113,7 +113,13 @@ impl Lent {
     }
 
     /// The word of a frame, where this half is put into memory.
-    pub(crate) fn load_with(&self, memory: &Memory, live: AreaId, frame: u32, word: u32) -> Option<u32>
+    pub(crate) fn load_with(
+        &self,
+        memory: &Memory,
+        live: AreaId,
+        frame: u32,
+        word: u32,
+    ) -> Option<u32>
         requires { word < 1024 }
         ensures { result ≡ words_of (with_own memory.now live self.now.own) frame word }
     {

@@ -21,7 +21,10 @@ use crate::past::{Past, Told};
 use crate::points::PanicPoints;
 use crate::refusal::Refusal;
 use crate::user_memory::UserMemory;
-use ow_base::{AreaId, Bank, Came, FRAME_WORDS, KeyByte, Now, PanicRecord, Panicked, Point, Regs, Shape, WordSource};
+use ow_base::{
+    AreaId, Bank, Came, FRAME_WORDS, KeyByte, Now, PanicRecord, Panicked, Point, Regs, Shape,
+    WordSource,
+};
 use panic_handover::HandOver;
 use phys_memory::Memory;
 use rv32_user::{StepEnd, step};
@@ -209,7 +212,10 @@ impl Plant {
         requires frame { frame < frame_count self.now.memory }
         ensures { words_of self.now.memory frame word ≡ Some result }
     {
-        match self.lent.load_with(self.seen.memory(), self.live, frame, word) {
+        match self
+            .lent
+            .load_with(self.seen.memory(), self.live, frame, word)
+        {
             Some(value) => value,
             None => unreachable!(),
         }
@@ -652,6 +658,7 @@ impl WordSource for Plant {
     ghost words = { λ p. words_of p.memory };
 
     fn load(&self, frame: u32, word: u32) -> Option<u32> {
-        self.lent.load_with(self.seen.memory(), self.live, frame, word)
+        self.lent
+            .load_with(self.seen.memory(), self.live, frame, word)
     }
 }

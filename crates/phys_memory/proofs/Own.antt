@@ -118,7 +118,7 @@ pub words_beside-rest : (m : MemoryParts) (dead : AreaId) (f w : ℕ) → is_own
 unfolding words_beside
 words_beside-rest m dead f w rest = rw rest
 
-with_own-same : (m : MemoryParts) (dead : AreaId) → with_own m dead (own_half m dead) ≡ m
+pub with_own-same : (m : MemoryParts) (dead : AreaId) → with_own m dead (own_half m dead) ≡ m
 with_own-same m A = refl
 with_own-same m B = refl
 

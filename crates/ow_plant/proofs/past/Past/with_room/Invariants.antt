@@ -1,4 +1,4 @@
-use Rattle.std.proofs.Common.{◌≡◌, ◌-◌, ◌≤◌, [], length, All}
+use Rattle.std.proofs.Common.{◌≡◌, ◌-◌, ◌≤◌, [], All}
 use Rattle.std.specs.Vec.{vec_capacity, vec_len}
 use Rattle.ow_plant.proofs.past.Past.with_room.Given as goal
 

@@ -1,4 +1,4 @@
-use Rattle.std.proofs.Common.{rules, ◌<◌, length, sym, ap, ◌∙◌, arith}
+use Rattle.std.proofs.Common.{rules}
 use Rattle.std.proofs.lemmas.List.Edits.{map_over_more}
 use Rattle.ow_plant.specs.Points.{entered_by}
 use Rattle.ow_plant.proofs.points.PanicPoints.enter.Goals as goal

@@ -1,4 +1,4 @@
-use Rattle.std.proofs.Common.{◌≡◌, ◌+◌, ◌*◌, ◌/◌, ◌%◌, sym, ap, ◌∙◌, length, arith}
+use Rattle.std.proofs.Common.{◌≡◌, ◌+◌, ◌*◌, ◌/◌, sym, ap, ◌∙◌, length, arith}
 use Rattle.phys_memory.specs.Memory.{MemoryParts}
 use Rattle.phys_memory.proofs.Own.{beside_a}
 use Rattle.phys_memory.proofs.whole.Memory.beside_a.Goals as goal
