@@ -7,7 +7,7 @@ ghost use Rattle.process_table.specs.Choosing.{IsChoice, IsNext, IsNone, IsReady
 ghost use Rattle.process_table.specs.Choosing.{call_goes_on, description_in, is_ready, is_runnable_in, last_pid, read_by, tty_goes_on, wait_goes_on};
 
 use crate::signals::signal_of;
-use crate::slots::{IN_CALL, OUTSIDE, SLOTS, Sought, has_such, is_live};
+use crate::slots::{IN_CALL, OUTSIDE, SLOTS, Sought, has_such};
 use ow_base::Now;
 use record_layouts::{DescRec, ProcRec, RecordView};
 
@@ -124,8 +124,8 @@ fn ready_in<V: RecordView>(view: &V, now: &Now, above: u32, slot: u32) -> Option
     ensures ready { IfSome result (IsReadyAs (V.records view.now) now.now above slot) }
     ensures none { IfNone result (is_ready (V.records view.now) now.now above slot ≡ false) }
 {
-    let process = view.proc(slot)?;
-    let ready = process.pid > above && is_live(&process) && is_runnable(view, now, slot, &process);
+    let process = view.live_proc(slot)?;
+    let ready = process.pid > above && is_runnable(view, now, slot, &process);
     if ready { Some(process) } else { None }
 }
 

@@ -5,6 +5,7 @@ pub mod Turning
 pub mod Least
 pub mod Records
 pub mod Reading
+pub mod Living
 pub mod At
 pub mod Seam
 pub mod Stores

@@ -14,6 +14,11 @@ use Rattle.record_layouts.specs.Held.{Records}
 abbrev pub is_live : ProcRec → Bool
 is_live process = process.state == 1 || process.state == 2
 
+-- the process of a slot, where it goes on
+abbrev pub live_one : Option ProcRec → Option ProcRec
+live_one (Some process) = if is_live process then Some process else None
+live_one None = None
+
 -- the pages that the heap has
 abbrev pub heap_pages : ProcRec → ℕ
 heap_pages process = (process.brk + 4095) / 4096
