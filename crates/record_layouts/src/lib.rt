@@ -39,7 +39,7 @@ pub use memory_map::MemoryMap;
 pub use overlay::{change_at, gate, open_end, overlaid};
 pub use overlay_laws::{intents_are_read, other_words_stay, the_block_decides};
 pub use ow_base::WordSource;
-pub use patch::{AnyRec, Patch, PatchItem};
+pub use patch::{AnyRec, Patch, PatchItem, PatchPart, PatchView, RecordRef};
 pub use places::{RecordId, address, records_lie_apart};
 pub use proc::{ProcRec, processes_are_spelled_once};
 pub use row::{RowRec, rows_are_spelled_once};

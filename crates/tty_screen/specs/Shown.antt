@@ -1,6 +1,6 @@
 -- The screen that the records of a terminal show. Its 24 row records are a ring, and its own record has the place in
 -- the ring of the top row of its display.
-use Rattle.std.specs.Prelude.{◌≡◌, ℕ, ◌+◌, ◌*◌, ◌%◌, ◌<◌, true, List, [], length, slice_index_or, All, Option, Some, None, is_some}
+use Rattle.std.specs.Prelude.{◌≡◌, ℕ, ◌+◌, ◌*◌, ◌%◌, ◌<◌, List, [], length, slice_index_or, All, Option, Some, None}
 use Rattle.ow_base.specs.Screen.{Screen, blank_row}
 use Rattle.record_layouts.specs.declared.term.TermRec.{TermRec}
 use Rattle.record_layouts.specs.declared.row.RowRec.{RowRec}
