@@ -252,7 +252,7 @@ fn commit_on(plant: &mut Plant, patch: &Patch) -> bool
     if live.head().is_none() {
         return false;
     }
-    live.commit(patch).is_ok()
+    live.commit(&patch.view()).is_ok()
 }
 
 // A machine that refuses this store of trap 1, with a head and the record of pid 5.

@@ -4,7 +4,9 @@ ghost use Rattle.std.specs.Prelude.{◌<◌, ◌*◌, ◌+◌, ◌≡◌, true, 
 ghost use Rattle.tty_screen.specs.Shown.{TerminalDecodes};
 
 use crate::small_memory::{AREA_FRAMES, MAP, ROW_0, SmallMemory, TERM, TERM_0, TERM_1};
-use record_layouts::{AnyRec, AreaView, PatchItem, RecordId, RecordView, RowRec, TermRec};
+use record_layouts::{
+    AnyRec, AreaView, PatchItem, PatchPart, RecordId, RecordRef, RecordView, RowRec, TermRec,
+};
 use std::alloc::{AllocError, Global};
 use std::test::Fail;
 use tty_screen::{byte_patch, screen_row};
@@ -104,13 +106,24 @@ fn row_item(place: u32, text: &[u8]) -> PatchItem {
     }
 }
 
+// What a part sets, where it is a terminal's record or a row.
+fn item_of(part: &PatchPart<'_>) -> Option<PatchItem> {
+    let rec = match part.rec {
+        RecordRef::Term(terminal) => AnyRec::Term(*terminal),
+        RecordRef::Row(row) => AnyRec::Row(*row),
+        _ => return None,
+    };
+    Some(PatchItem { id: part.id, rec })
+}
+
 #[test]
 fn patches_of_bytes(rt: HostRuntime) -> Result<(), Fail> {
     for (before, byte, [top, row, col], rows) in PATCHES {
         let memory = terminals(rt.alloc(), before)?;
         let view = AreaView::new(&memory, MAP);
         assert!(rt; is_whole(&view, 1));
-        let patch = byte_patch(&view, 1, byte);
+        let drawn = byte_patch(&view, 1, byte);
+        let patch = drawn.view();
         let term = TermRec {
             last: u32::from(byte),
             top,
@@ -118,15 +131,15 @@ fn patches_of_bytes(rt: HostRuntime) -> Result<(), Fail> {
             col,
             ..AFTER
         };
-        let items = patch.items.as_slice();
+        let parts = patch.parts();
         let first = PatchItem {
             id: RecordId::Term(1),
             rec: AnyRec::Term(term),
         };
-        assert_eq!(rt; items.first(), Some(&first), "{before:?} {byte}");
-        let others = items.iter().skip(1).copied();
+        assert_eq!(rt; parts.first().and_then(item_of), Some(first), "{before:?} {byte}");
+        let others = parts.iter().skip(1).map(item_of);
         assert!(rt;
-            others.eq(rows.iter().map(|row| row_item(row.0, row.1))),
+            others.eq(rows.iter().map(|row| Some(row_item(row.0, row.1)))),
             "{before:?} {byte}"
         );
     }

@@ -11,21 +11,21 @@ ghost use Rattle.word_store.specs.Stores.{KeepsUnstored};
 use crate::copying::{carry_out, roll_forward};
 use crate::opening::open;
 use ow_base::Panicked;
-use record_layouts::Patch;
+use record_layouts::PatchView;
 use word_store::WordStore;
 
 /// Sets the records of a patch in the area that begins at frame `base`, of which no intent is open then.
 ///
 /// An intent that is open before is carried out first. At `Panicked` all records of the patch are set or none.
-pub(crate) fn commit<W: WordStore>(store: &mut W, base: u32, patch: &Patch) -> Result<(), Panicked>
+pub(crate) fn commit<W: WordStore>(store: &mut W, base: u32, patch: &PatchView<'_>) -> Result<(), Panicked>
     requires able { W.able store.old ≡ true }
     requires area { HasArea (W.words store.old) base }
     requires readable { is_readable_gate (gate_of (area_at (W.words store.old) base)) ≡ true }
-    requires patch { IsPatch patch.now.items.items }
-    ensures ok { OnOk result (IsSeenSet patch.now.items.items (area_at (W.words store.old) base) (area_at (W.words store.new) base)) }
+    requires patch { IsPatch patch.now }
+    ensures ok { OnOk result (IsSeenSet patch.now (area_at (W.words store.old) base) (area_at (W.words store.new) base)) }
     ensures shut { OnOk result (area_at (W.words store.new) base 16 ≡ 0) }
     ensures err { OnErr result (IsSeenAs (area_at (W.words store.old) base) (area_at (W.words store.new) base)
-        ⊎ IsSeenSet patch.now.items.items (area_at (W.words store.old) base) (area_at (W.words store.new) base)) }
+        ⊎ IsSeenSet patch.now (area_at (W.words store.old) base) (area_at (W.words store.new) base)) }
     ensures there { HasArea (W.words store.new) base }
     ensures beside { beside base (W.words store.new) ≡ beside base (W.words store.old) }
     ensures rest { W.rest store.new ≡ W.rest store.old }
@@ -36,7 +36,7 @@ pub(crate) fn commit<W: WordStore>(store: &mut W, base: u32, patch: &Patch) -> R
     ensures place { W.place store.new ≡ W.place store.old }
 {
     roll_forward(store, base)?;
-    if patch.items.is_empty() {
+    if patch.is_empty() {
         return Ok(());
     }
     let end = open(store, base, patch)?;

@@ -11,7 +11,7 @@ use crate::frames::{copy_frame, zero_frame};
 use ow_base::{Now, Panicked, WordSource};
 use ow_plant::Plant;
 use record_layouts::{
-    AreaView, CacheRec, DescRec, ExitRec, FileRec, HeadRec, MemoryMap, Patch, ProcRec, RecordView,
+    AreaView, CacheRec, DescRec, ExitRec, FileRec, HeadRec, MemoryMap, PatchView, ProcRec, RecordView,
     RowRec, SigRec, TermRec, Writer,
 };
 use word_store::WordStore;
@@ -218,14 +218,14 @@ impl Writer for Live<'_> {
 
     /// Sets the records of a patch, all of them or, at `Panicked`, all or none. An intent that is open before is carried
     /// out and closed first; after `Ok` none is open.
-    fn commit(&mut self, patch: &Patch) -> Result<(), Panicked>
+    fn commit(&mut self, patch: &PatchView<'_>) -> Result<(), Panicked>
         requires able { self.old.plant.now.refusal ≡ None }
         requires stands { IsStanding self.old.plant.now }
-        requires patch { IsCommittable (records_held self.old.plant.now) patch.now.items.items }
-        ensures ok { OnOk result (held_of self.new.plant.now ≡ patched patch.now.items.items (held_of self.old.plant.now)) }
+        requires patch { IsCommittable (records_held self.old.plant.now) patch.now }
+        ensures ok { OnOk result (held_of self.new.plant.now ≡ patched patch.now (held_of self.old.plant.now)) }
         ensures shut { OnOk result (gate_held self.new.plant.now ≡ Closed) }
         ensures err { OnErr result ((held_of self.new.plant.now ≡ held_of self.old.plant.now)
-            ⊎ (held_of self.new.plant.now ≡ patched patch.now.items.items (held_of self.old.plant.now))) }
+            ⊎ (held_of self.new.plant.now ≡ patched patch.now (held_of self.old.plant.now))) }
         ensures stays { OnOk result (self.new.plant.now.refusal ≡ None) }
         ensures cause { OnErr result (self.new.plant.now.refusal ≡ Some Store) }
         ensures none_made { OnErr result (self.new.plant.now.stores ≡ 0 → words_of self.new.plant.now.memory ≡ words_of self.old.plant.now.memory) }

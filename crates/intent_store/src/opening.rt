@@ -2,6 +2,7 @@
 ghost use Rattle.std.specs.Prelude.{◌≡◌, ◌+◌, ◌<◌, ◌≤◌, true, length, IfOk, OnOk, OnErr};
 ghost use Rattle.record_layouts.specs.Held.{beside};
 ghost use Rattle.record_layouts.specs.Overlay.{HasArea, area_at};
+ghost use Rattle.record_layouts.specs.Parts.{item_of, record_of};
 ghost use Rattle.record_layouts.specs.Patch.{FitsAny, IsPatch, IsPatchItem};
 ghost use Rattle.intent_store.specs.Blocks.{IsShutLike};
 ghost use Rattle.intent_store.specs.Payloads.{IsItemSpelled, IsOpened, IsPatchSpelled, IsRecordSpelled, IsSpelledOn};
@@ -11,7 +12,7 @@ ghost use Rattle.word_store.specs.Stores.{KeepsUnstored};
 use crate::payload::{length_of, payload_length};
 use ow_base::{Panicked, seal};
 use record_layouts::{
-    AnyRec, GATE, INTENT_KIND, PAYLOAD, Patch, PatchItem, SEAL, address, records_lie_apart,
+    GATE, INTENT_KIND, PAYLOAD, PatchPart, PatchView, RecordRef, SEAL, address, records_lie_apart,
 };
 use word_store::{WordStore, store_area};
 
@@ -24,12 +25,12 @@ pub(crate) struct Spelling {
 
 /// Opens an intent that sets the records of a patch in the area that begins at frame `base`, where none is open: the
 /// payload and the seal are stored first, and the gate opens last. The number behind the payload comes back.
-pub(crate) fn open<W: WordStore>(store: &mut W, base: u32, patch: &Patch) -> Result<u32, Panicked>
+pub(crate) fn open<W: WordStore>(store: &mut W, base: u32, patch: &PatchView<'_>) -> Result<u32, Panicked>
     requires able { W.able store.old ≡ true }
     requires area { HasArea (W.words store.old) base }
     requires shut { area_at (W.words store.old) base 16 ≡ 0 }
-    requires patch { IsPatch patch.now.items.items }
-    ensures ok { IfOk result (IsOpened patch.now.items.items (area_at (W.words store.old) base) (area_at (W.words store.new) base)) }
+    requires patch { IsPatch patch.now }
+    ensures ok { IfOk result (IsOpened patch.now (area_at (W.words store.old) base) (area_at (W.words store.new) base)) }
     ensures err { OnErr result (IsShutLike (area_at (W.words store.old) base) (area_at (W.words store.new) base)) }
     ensures there { HasArea (W.words store.new) base }
     ensures beside { beside base (W.words store.new) ≡ beside base (W.words store.old) }
@@ -56,14 +57,14 @@ fn store_payload<W: WordStore>(
     store: &mut W,
     base: u32,
     begun: Spelling,
-    patch: &Patch,
+    patch: &PatchView<'_>,
 ) -> Result<Spelling, Panicked>
     requires able { W.able store.old ≡ true }
     requires area { HasArea (W.words store.old) base }
     requires shut { area_at (W.words store.old) base 16 ≡ 0 }
     requires begun { begun.end ≡ 17 }
-    requires patch { IsPatch patch.now.items.items }
-    ensures ok { IfOk result (IsPatchSpelled patch.now.items.items (area_at (W.words store.old) base) (area_at (W.words store.new) base) begun) }
+    requires patch { IsPatch patch.now }
+    ensures ok { IfOk result (IsPatchSpelled patch.now (area_at (W.words store.old) base) (area_at (W.words store.new) base) begun) }
     ensures shut { IsShutLike (area_at (W.words store.old) base) (area_at (W.words store.new) base) }
     ensures there { HasArea (W.words store.new) base }
     ensures beside { beside base (W.words store.new) ≡ beside base (W.words store.old) }
@@ -75,26 +76,26 @@ fn store_payload<W: WordStore>(
     ensures place { W.place store.new ≡ W.place store.old }
 {
     let mut spelled = begun;
-    for item in patch.items.as_slice() {
-        spelled = store_item(store, base, spelled, item)?;
+    for part in patch.parts() {
+        spelled = store_part(store, base, spelled, part)?;
     }
     Ok(spelled)
 }
 
 // Stores the range that sets a record, which has at most 131 words, behind what is stored of a payload.
-fn store_item<W: WordStore>(
+fn store_part<W: WordStore>(
     store: &mut W,
     base: u32,
     spelled: Spelling,
-    item: &PatchItem,
+    part: &PatchPart<'_>,
 ) -> Result<Spelling, Panicked>
     requires able { W.able store.old ≡ true }
     requires area { HasArea (W.words store.old) base }
     requires shut { area_at (W.words store.old) base 16 ≡ 0 }
     requires begun { 17 ≤ spelled.end }
     requires room { spelled.end + 131 ≤ 1023 }
-    requires item { IsPatchItem item.now }
-    ensures ok { IfOk result (IsItemSpelled item.now (area_at (W.words store.old) base) (area_at (W.words store.new) base) spelled) }
+    requires part { IsPatchItem (item_of part.now) }
+    ensures ok { IfOk result (IsItemSpelled (item_of part.now) (area_at (W.words store.old) base) (area_at (W.words store.new) base) spelled) }
     ensures shut { IsShutLike (area_at (W.words store.old) base) (area_at (W.words store.new) base) }
     ensures there { HasArea (W.words store.new) base }
     ensures beside { beside base (W.words store.new) ≡ beside base (W.words store.old) }
@@ -106,9 +107,9 @@ fn store_item<W: WordStore>(
     ensures place { W.place store.new ≡ W.place store.old }
 {
     records_lie_apart();
-    let (frame, first) = address(item.id);
-    let spelled = store_words(store, base, spelled, &[frame, first, length_of(item.id)])?;
-    store_record(store, base, spelled, &item.rec)
+    let (frame, first) = address(part.id);
+    let spelled = store_words(store, base, spelled, &[frame, first, length_of(part.id)])?;
+    store_record(store, base, spelled, part.rec)
 }
 
 // Stores the words of a record, of which there are at most 128, behind what is stored of a payload.
@@ -116,15 +117,15 @@ fn store_record<W: WordStore>(
     store: &mut W,
     base: u32,
     spelled: Spelling,
-    rec: &AnyRec,
+    rec: RecordRef<'_>,
 ) -> Result<Spelling, Panicked>
     requires able { W.able store.old ≡ true }
     requires area { HasArea (W.words store.old) base }
     requires shut { area_at (W.words store.old) base 16 ≡ 0 }
     requires begun { 17 ≤ spelled.end }
     requires room { spelled.end + 128 ≤ 1023 }
-    requires rec { FitsAny rec.now }
-    ensures ok { IfOk result (IsRecordSpelled rec.now (area_at (W.words store.old) base) (area_at (W.words store.new) base) spelled) }
+    requires rec { FitsAny (record_of rec) }
+    ensures ok { IfOk result (IsRecordSpelled (record_of rec.entry) (area_at (W.words store.old) base) (area_at (W.words store.new) base) spelled) }
     ensures shut { IsShutLike (area_at (W.words store.old) base) (area_at (W.words store.new) base) }
     ensures there { HasArea (W.words store.new) base }
     ensures beside { beside base (W.words store.new) ≡ beside base (W.words store.old) }
@@ -136,15 +137,15 @@ fn store_record<W: WordStore>(
     ensures place { W.place store.new ≡ W.place store.old }
 {
     match rec {
-        AnyRec::Head(head) => store_words(store, base, spelled, &head.to_words()),
-        AnyRec::Proc(process) => store_words(store, base, spelled, &process.to_words()),
-        AnyRec::Sig(signals) => store_words(store, base, spelled, &signals.to_words()),
-        AnyRec::Desc(description) => store_words(store, base, spelled, &description.to_words()),
-        AnyRec::File(file) => store_words(store, base, spelled, &file.to_words()),
-        AnyRec::Cache(entry) => store_words(store, base, spelled, &entry.to_words()),
-        AnyRec::Term(terminal) => store_words(store, base, spelled, &terminal.to_words()),
-        AnyRec::Row(row) => store_words(store, base, spelled, &row.to_words()),
-        AnyRec::Exit(exit) => store_words(store, base, spelled, &exit.to_words()),
+        RecordRef::Head(head) => store_words(store, base, spelled, &head.to_words()),
+        RecordRef::Proc(process) => store_words(store, base, spelled, &process.to_words()),
+        RecordRef::Sig(signals) => store_words(store, base, spelled, &signals.to_words()),
+        RecordRef::Desc(description) => store_words(store, base, spelled, &description.to_words()),
+        RecordRef::File(file) => store_words(store, base, spelled, &file.to_words()),
+        RecordRef::Cache(entry) => store_words(store, base, spelled, &entry.to_words()),
+        RecordRef::Term(terminal) => store_words(store, base, spelled, &terminal.to_words()),
+        RecordRef::Row(row) => store_words(store, base, spelled, &row.to_words()),
+        RecordRef::Exit(exit) => store_words(store, base, spelled, &exit.to_words()),
     }
 }
 

@@ -3,7 +3,7 @@ ghost use Rattle.std.specs.Prelude.{◌≡◌, ◌≤◌, ℕ, List, length};
 ghost use Rattle.record_layouts.specs.Places.{length_of};
 ghost use Rattle.intent_store.specs.Payloads.{IsPayload};
 
-use record_layouts::{Patch, RecordId};
+use record_layouts::{PatchView, RecordId};
 
 // The words of a range before those that it spells: its frame, its place in it, and how many words it spells.
 const RANGE_HEAD: u32 = 3;
@@ -24,13 +24,13 @@ pub(crate) fn length_of(id: RecordId) -> u32
 }
 
 /// How many words the payload has that sets the records of a patch. They fit in the block.
-pub(crate) fn payload_length(patch: &Patch) -> u32
-    ensures exact { (payload : List ℕ) → IsPayload patch.now.items.items payload → length payload ≡ result }
+pub(crate) fn payload_length(patch: &PatchView<'_>) -> u32
+    ensures exact { (payload : List ℕ) → IsPayload patch.now payload → length payload ≡ result }
     ensures fits { result ≤ 1006 }
 {
     let mut length = 0;
-    for item in patch.items.as_slice() {
-        length += RANGE_HEAD + length_of(item.id);
+    for part in patch.parts() {
+        length += RANGE_HEAD + length_of(part.id);
     }
     length
 }

@@ -42,7 +42,7 @@ fn put_byte(live: &mut Live<'_>, tty: u32, byte: u8) -> Result<(), Panicked>
     ensures same_reference { live.new.plant.ghost_name ≡ live.old.plant.ghost_name }
 {
     let patch = byte_patch(&*live, tty, byte);
-    live.commit(&patch)?;
+    live.commit(&patch.view())?;
     live.put(tty, byte)
 }
 
@@ -99,7 +99,7 @@ fn write_piece(
         unreachable!()
     };
     put_bytes(live, tty, bytes)?;
-    live.commit(patch)
+    live.commit(&patch.view())
 }
 
 /// Does what a call asks for: the bytes of the process go out, each counted first, and the patch is committed last.
@@ -123,7 +123,7 @@ pub(crate) fn carry_out(live: &mut Live<'_>, slot: u32, service: &Service) -> Re
     ensures same_reference { live.new.plant.ghost_name ≡ live.old.plant.ghost_name }
 {
     match service {
-        Service::Once { patch } => live.commit(patch),
+        Service::Once { patch } => live.commit(&patch.view()),
         Service::TtyWrite {
             tty,
             from,

@@ -40,7 +40,9 @@ fn user_step(plant: &mut Plant) -> UserEnd
     plant.user_step()
 }
 
-// The turn of the process in user mode: an instruction is made, or a trap is next.
+// The turn of the process in user mode: an instruction is made, or a trap is next. It stands where it is called, so that
+// what it tells of most turns, that an instruction was made, does not go through memory.
+#[inline(always)]
 pub(crate) fn next_in_user(plant: &mut Plant) -> Next
     requires sound { IsSound plant.old }
     requires in_user { plant.old.in_user ≡ true }

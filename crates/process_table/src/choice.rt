@@ -119,8 +119,8 @@ fn ready_in<V: RecordView>(view: &V, now: &Now, above: u32, slot: u32) -> Option
     ensures ready { IfSome result (IsReadyAs (V.records view.now) now.now above slot) }
     ensures none { IfNone result (is_ready (V.records view.now) now.now above slot ≡ false) }
 {
-    let process = view.proc(slot)?;
-    let ready = process.pid > above && process.is_live() && is_runnable(view, now, slot, &process);
+    let process = view.live_proc(slot)?;
+    let ready = process.pid > above && is_runnable(view, now, slot, &process);
     if ready { Some(process) } else { None }
 }
 

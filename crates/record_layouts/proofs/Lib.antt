@@ -6,6 +6,7 @@ pub mod Surviving
 pub mod Least
 pub mod Records
 pub mod Reading
+pub mod Living
 pub mod At
 pub mod Seam
 pub mod Stores

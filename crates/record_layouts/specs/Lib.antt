@@ -16,6 +16,7 @@ pub mod Exit
 pub mod Overlay
 pub mod Places
 pub mod Patch
+pub mod Parts
 pub mod Records
 pub mod At
 pub mod Held

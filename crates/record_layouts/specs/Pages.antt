@@ -23,6 +23,11 @@ is_live process = is_outside process || is_in_call process
 abbrev pub has_ended : ProcRec → Bool
 has_ended process = process.state == 3
 
+-- the process of a slot, where it goes on
+abbrev pub live_one : Option ProcRec → Option ProcRec
+live_one (Some process) = if is_live process then Some process else None
+live_one None = None
+
 -- the pages that the heap has
 abbrev pub heap_pages : ProcRec → ℕ
 heap_pages process = (process.brk + 4095) / 4096

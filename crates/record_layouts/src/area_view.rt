@@ -1,8 +1,9 @@
 //! A view of the records of an area.
-ghost use Rattle.std.specs.Prelude.{◌≡◌, length};
+ghost use Rattle.std.specs.Prelude.{◌≡◌, ◌+◌, ◌<◌, length};
 ghost use Rattle.record_layouts.specs.Overlay.{area_at, overlay};
-ghost use Rattle.record_layouts.specs.Places.{IsRecordId, length_of};
+ghost use Rattle.record_layouts.specs.Places.{IsRecordId, first_word, length_of};
 ghost use Rattle.record_layouts.specs.Reading.{FitsMap, words_of};
+ghost use Rattle.record_layouts.specs.declared.places.RecordId.{RecordId};
 
 use crate::cache::CacheRec;
 use crate::desc::DescRec;
@@ -13,12 +14,15 @@ use crate::intent::{Area, Gate};
 use crate::layout::{CACHE_OWNERS, FIRST_TABLE, OWNERS, TABLES_OF_SLOT};
 use crate::memory_map::MemoryMap;
 use crate::places::{RecordId, address};
-use crate::proc::ProcRec;
+use crate::proc::{IN_CALL, OUTSIDE, ProcRec};
 use crate::row::RowRec;
 use crate::sig::SigRec;
 use crate::term::TermRec;
 use crate::view::RecordView;
 use ow_base::{FRAME_WORDS, WordSource};
+
+// The word of a process record that tells the state.
+const STATE: u32 = 1;
 
 /// The records of the area that a map names, as memory has them, with a valid open intent laid over the area.
 ///
@@ -63,6 +67,15 @@ impl<W: WordSource> AreaView<'_, W> {
         let (frame, word) = address(id);
         self.area().read(FRAME_WORDS * frame + word, words);
     }
+
+    // The word of a process record that tells the state.
+    fn state_word(&self, slot: u32) -> u32
+        requires { slot < 16 }
+        ensures { result ≡ overlay (area_at (W.words self.now.source.now) self.now.map.area_base) (first_word (RecordId.Proc slot) + 1) }
+    {
+        let (frame, word) = address(RecordId::Proc(slot));
+        self.area().overlaid(FRAME_WORDS * frame + word + STATE)
+    }
 }
 
 impl<W: WordSource> WordSource for AreaView<'_, W> {
@@ -95,6 +108,15 @@ impl<W: WordSource> RecordView for AreaView<'_, W> {
         let mut words = [0; 128];
         self.read(RecordId::Proc(slot), &mut words);
         ProcRec::from_words(&words)
+    }
+
+    fn live_proc(&self, slot: u32) -> Option<ProcRec> {
+        let state = self.state_word(slot);
+        if state == OUTSIDE || state == IN_CALL {
+            self.proc(slot)
+        } else {
+            None
+        }
     }
 
     fn sig(&self, slot: u32) -> Option<SigRec> {

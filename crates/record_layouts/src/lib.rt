@@ -55,7 +55,7 @@ pub use panic_laws::{
     calls_are_undone, closing_traps_are_repeated, due_panics_come, live_processes_have_fates,
     only_processes_change, outside_goes_on, panics_are_told_as_listed, untouched_processes_survive,
 };
-pub use patch::{AnyRec, Patch, PatchItem};
+pub use patch::{AnyRec, Patch, PatchItem, PatchPart, PatchView, RecordRef};
 pub use places::{RecordId, address, records_lie_apart};
 pub use proc::{ProcRec, processes_are_spelled_once};
 pub use row::{RowRec, rows_are_spelled_once};

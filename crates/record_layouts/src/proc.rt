@@ -21,10 +21,10 @@ const DESCS: u32 = 32;
 const FREE: u32 = 0;
 
 // A process outside a call.
-const OUTSIDE: u32 = 1;
+pub(crate) const OUTSIDE: u32 = 1;
 
 // A process in a call.
-const IN_CALL: u32 = 2;
+pub(crate) const IN_CALL: u32 = 2;
 
 // A process that has ended.
 const ENDED: u32 = 3;

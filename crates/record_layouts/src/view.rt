@@ -6,7 +6,7 @@ use crate::desc::DescRec;
 use crate::exit::ExitRec;
 use crate::file::FileRec;
 use crate::head::HeadRec;
-use crate::proc::ProcRec;
+use crate::proc::{IN_CALL, OUTSIDE, ProcRec};
 use crate::row::RowRec;
 use crate::sig::SigRec;
 use crate::term::TermRec;
@@ -21,6 +21,7 @@ use ow_base::WordSource;
 /// that `owner` and `cache_owner` count user frames and cache entries from 0.
 pub trait RecordView: WordSource {
     ghost use Rattle.record_layouts.specs.Held.{AreValues, Records};
+    ghost use Rattle.record_layouts.specs.Pages.{live_one};
     ghost use Rattle.record_layouts.specs.Head.{FitsHead};
     ghost use Rattle.record_layouts.specs.Proc.{FitsProc};
     ghost use Rattle.record_layouts.specs.Sig.{FitsSig};
@@ -43,6 +44,18 @@ pub trait RecordView: WordSource {
         requires { slot < 16 }
         ensures record { result ≡ (records self.now).procs slot }
         ensures fits { IfSome result FitsProc };
+
+    /// The process of a slot where it goes on. A slot in which none does may be told without reading its whole record.
+    fn live_proc(&self, slot: u32) -> Option<ProcRec>
+        requires { slot < 16 }
+        ensures record { result ≡ live_one ((records self.now).procs slot) }
+        ensures fits { IfSome result FitsProc }
+    {
+        match self.proc(slot) {
+            Some(process) if process.state == OUTSIDE || process.state == IN_CALL => Some(process),
+            _ => None,
+        }
+    }
 
     /// The signals of the process of a slot.
     fn sig(&self, slot: u32) -> Option<SigRec>

@@ -1,7 +1,7 @@
 //! What changes the records of a running kernel.
 ghost use Rattle.std.specs.Prelude.{◌≡◌, ◌⊎◌, false, true, OnOk, OnErr};
 
-use crate::patch::Patch;
+use crate::patch::PatchView;
 use crate::view::RecordView;
 use ow_base::Panicked;
 
@@ -38,13 +38,13 @@ pub trait Writer: RecordView {
         ensures { result ≡ (Self.records self.now).map.sectors };
 
     /// Sets the records of a patch, all of them or, at `Panicked`, all or none. The data sectors of a file are there.
-    fn commit(&mut self, patch: &Patch) -> Result<(), Panicked>
+    fn commit(&mut self, patch: &PatchView<'_>) -> Result<(), Panicked>
         requires able { refused self.old ≡ false }
         requires stands { Stands self.old }
-        requires patch { IsCommittable (Self.records self.old) patch.now.items.items }
-        ensures ok { OnOk result (held_by Self.records Self.words disk rest self.new ≡ patched patch.now.items.items (held_by Self.records Self.words disk rest self.old)) }
+        requires patch { IsCommittable (Self.records self.old) patch.now }
+        ensures ok { OnOk result (held_by Self.records Self.words disk rest self.new ≡ patched patch.now (held_by Self.records Self.words disk rest self.old)) }
         ensures err { OnErr result ((held_by Self.records Self.words disk rest self.new ≡ held_by Self.records Self.words disk rest self.old)
-            ⊎ (held_by Self.records Self.words disk rest self.new ≡ patched patch.now.items.items (held_by Self.records Self.words disk rest self.old))) }
+            ⊎ (held_by Self.records Self.words disk rest self.new ≡ patched patch.now (held_by Self.records Self.words disk rest self.old))) }
         ensures stays { OnOk result (refused self.new ≡ false) }
         ensures cause { OnErr result (refused self.new ≡ true) }
         ensures still_stands { Stands self.new }

@@ -1,28 +1,16 @@
 -- What the records of a terminal show once the patch of a byte is laid over them.
-use Rattle.std.proofs.Common.{◌≡◌, ℕ, ◌<◌, if◌then◌else◌, List, [], ◌∷◌, ◌++◌, Option, Some, None, refl, arith, sym, ◌∙◌}
+use Rattle.std.proofs.Common.{◌≡◌, ℕ, ◌<◌, if◌then◌else◌, Option, Some, None, refl, arith, sym, ◌∙◌}
 use Rattle.std.proofs.lemmas.Bool.Decides.{nat_tests}
 use Rattle.ow_base.specs.Screen.{Screen, drawn}
 use Rattle.ow_base.specs.Words.{updated}
 use Rattle.record_layouts.specs.declared.term.TermRec.{TermRec}
 use Rattle.record_layouts.specs.declared.row.RowRec.{RowRec}
-use Rattle.record_layouts.specs.declared.places.RecordId.TheVariants as id
-use Rattle.record_layouts.specs.declared.patch.AnyRec.TheVariants as any
-use Rattle.record_layouts.specs.declared.patch.PatchItem.{PatchItem}
 use Rattle.record_layouts.specs.Held.{Records, with_items}
 use Rattle.tty_screen.specs.Shown.{IsScreen, ShowsScreen, row_number}
 use Rattle.tty_screen.specs.Drawing.{is_seen}
-use Rattle.tty_screen.specs.Strokes.{scrolls, top_after, cursor_after, with_byte, blank_record, row_items}
+use Rattle.tty_screen.specs.Strokes.{scrolls, top_after, cursor_after, with_byte, blank_record, byte_items}
 use Rattle.tty_screen.proofs.RowRing.{AreShown, with_row, stroked, scrolled}
 use Rattle.tty_screen.proofs.Screens.{rows_drawn, row_drawn, col_drawn, still_screen}
-
--- what sets a terminal's record and up to two rows
-abbrev pub byte_items : (tty : ℕ) → TermRec → (seen blanked : Option RowRec) → List PatchItem
-byte_items tty after seen blanked = record { id = id.Term tty; rec = any.Term after } ∷ (row_items seen ++ row_items blanked)
-
--- items that are put one after the other
-pub put_together : {none one two three : List PatchItem} (item : PatchItem) (a b : List PatchItem)
-    → none ≡ [] → one ≡ none ++ item ∷ [] → two ≡ one ++ a → three ≡ two ++ b → three ≡ item ∷ (a ++ b)
-put_together item a b first second third fourth = rw (fourth, third, second, first)
 
 terms_after : (records : Records) (tty : ℕ) (after : TermRec) (seen blanked : Option RowRec)
     → (with_items records (byte_items tty after seen blanked)).terms ≡ updated records.terms tty (Some after)

@@ -1,6 +1,6 @@
 -- The parts of a patch that draws a byte: the terminal's record, the row in which the byte is seen, and the row that
 -- is blanked.
-use Rattle.std.specs.Prelude.{ℕ, ◌+◌, ◌%◌, Bool, ◌&&◌, ◌||◌, ◌==◌, if◌then◌else◌, List, [], ◌∷◌, slice_set, Option, Some, None}
+use Rattle.std.specs.Prelude.{ℕ, ◌+◌, ◌%◌, Bool, ◌&&◌, ◌||◌, ◌==◌, if◌then◌else◌, List, [], ◌∷◌, ◌++◌, slice_set, Option, Some, None}
 use Rattle.ow_base.specs.Screen.{Screen, blank_row, drawn}
 use Rattle.record_layouts.specs.declared.term.TermRec.{TermRec}
 use Rattle.record_layouts.specs.declared.row.RowRec.{RowRec}
@@ -34,3 +34,7 @@ blank_record number = record { place = number; text = blank_row }
 abbrev pub row_items : Option RowRec → List PatchItem
 row_items None = []
 row_items (Some row) = record { id = id.Row row.place; rec = any.Row row } ∷ []
+
+-- what sets a terminal's record and up to two rows
+abbrev pub byte_items : (tty : ℕ) → TermRec → (seen blanked : Option RowRec) → List PatchItem
+byte_items tty after seen blanked = record { id = id.Term tty; rec = any.Term after } ∷ (row_items seen ++ row_items blanked)

@@ -1,17 +1,16 @@
 //! The patch that draws a byte.
 ghost use Rattle.std.specs.Prelude.{◌≡◌, ◌≢◌, ◌+◌, ◌%◌, ◌<◌, ◌≤◌, ◌++◌, if◌then◌else◌, length, All, IfSome, IsFalse, Option};
-ghost use Rattle.arrayvec.specs.ArrayVec.{array_vec_len};
 ghost use Rattle.record_layouts.specs.Held.{SectorsAre, with_items};
 ghost use Rattle.record_layouts.specs.Patch.{IsPatch};
 ghost use Rattle.record_layouts.specs.Row.{FitsRow};
 ghost use Rattle.record_layouts.specs.Term.{FitsTerm};
-ghost use Rattle.record_layouts.specs.declared.places.RecordId.{RecordId};
 ghost use Rattle.tty_screen.specs.Drawing.{CountsByte, DrawsByte, HasItsPlace, IsCounted, IsOfTerminal, StaysBeside, is_seen};
 ghost use Rattle.tty_screen.specs.Shown.{TerminalDecodes, row_number};
 ghost use Rattle.tty_screen.specs.Strokes.{blank_record, cursor_after, row_items, scrolls, top_after, with_byte};
 
 use crate::ring::record_of_row;
-use record_layouts::{AnyRec, Patch, ROWS, RecordId, RecordView, RowRec, TermRec};
+use record_layouts::{PatchView, ROWS, RecordId, RecordRef, RecordView, RowRec, TermRec};
+use std::marker::Model;
 
 const BLANK_ROW: [u8; 80] = [b' '; 80];
 
@@ -19,34 +18,68 @@ const LAST_ROW: u32 = 23;
 
 const LAST_COL: u32 = 79;
 
+/// What draws a byte on a terminal: the terminal's record, the row in which the byte is seen, and the row that is
+/// blanked. Contracts see the list of those that there are.
+#[derive(Debug, Drop)]
+pub struct BytePatch {
+    tty: u32,
+    terminal: TermRec,
+    seen: Option<RowRec>,
+    blanked: Option<RowRec>,
+}
+
+impl Model for BytePatch {
+    ghost use Rattle.std.specs.Prelude.{List};
+    ghost use Rattle.record_layouts.specs.declared.patch.PatchItem.{PatchItem};
+    ghost use Rattle.tty_screen.specs.Strokes.{byte_items};
+
+    ghost Value = { List PatchItem };
+
+    ghost view = { λ p. byte_items p.tty p.terminal p.seen p.blanked };
+}
+
+impl BytePatch {
+    /// The records, where they stand in this patch.
+    pub fn view(&self) -> PatchView<'_>
+        ensures { result ≡ self.now }
+    {
+        let mut patch = PatchView::new();
+        patch.put(RecordId::Term(self.tty), RecordRef::Term(&self.terminal));
+        put_row(&mut patch, &self.seen);
+        put_row(&mut patch, &self.blanked);
+        patch
+    }
+}
+
 /// The patch that draws a byte on a terminal, 0 or 1, whose record and rows decode.
 ///
 /// It sets the terminal's record, in which the byte is counted, and at most two rows: that in which the byte is seen,
 /// and where the display scrolls the one that is blanked.
-pub fn byte_patch<V: RecordView>(view: &V, tty: u32, byte: u8) -> Patch
+pub fn byte_patch<V: RecordView>(view: &V, tty: u32, byte: u8) -> BytePatch
     requires tty { tty < 2 }
     requires decodes { TerminalDecodes (V.records view.now) tty }
-    ensures patch { IsPatch result.items.items }
-    ensures sectors { All (λ item. SectorsAre (V.records view.now).map.sectors item.rec) result.items.items }
-    ensures shows { DrawsByte (V.records view.now) tty byte result.items.items }
+    ensures patch { IsPatch result }
+    ensures sectors { All (λ item. SectorsAre (V.records view.now).map.sectors item.rec) result }
+    ensures shows { DrawsByte (V.records view.now) tty byte result }
     ensures counts { let old = V.records view.now in
-        IsCounted (old.terms tty) ((with_items old result.items.items).terms tty) byte }
-    ensures only { All (λ item. IsOfTerminal tty item.id) result.items.items }
-    ensures small { length result.items.items ≤ 3 }
-    ensures quiet { IsFalse (is_seen byte) → byte ≢ 10 → length result.items.items ≡ 1 }
-    ensures places { All (λ item. HasItsPlace item.id item.rec) result.items.items }
-    ensures beside { StaysBeside tty (V.records view.now) (with_items (V.records view.now) result.items.items) }
-    ensures still_decodes { TerminalDecodes (with_items (V.records view.now) result.items.items) tty }
+        IsCounted (old.terms tty) ((with_items old result).terms tty) byte }
+    ensures only { All (λ item. IsOfTerminal tty item.id) result }
+    ensures small { length result ≤ 3 }
+    ensures quiet { IsFalse (is_seen byte) → byte ≢ 10 → length result ≡ 1 }
+    ensures places { All (λ item. HasItsPlace item.id item.rec) result }
+    ensures beside { StaysBeside tty (V.records view.now) (with_items (V.records view.now) result) }
+    ensures still_decodes { TerminalDecodes (with_items (V.records view.now) result) tty }
 {
     let terminal = view.term(tty).unwrap();
     let after = after_byte(&terminal, byte);
     let seen = seen_row(view, tty, &terminal, byte);
     let blanked = blanked_row(tty, &terminal, byte);
-    let mut patch = Patch::new();
-    patch.put(RecordId::Term(tty), AnyRec::Term(after));
-    put_row(&mut patch, seen);
-    put_row(&mut patch, blanked);
-    patch
+    BytePatch {
+        tty,
+        terminal: after,
+        seen,
+        blanked,
+    }
 }
 
 // The display moves up by one row.
@@ -150,14 +183,11 @@ fn blanked_row(tty: u32, terminal: &TermRec, byte: u8) -> Option<RowRec>
 }
 
 // Adds a row to the patch, where there is one.
-fn put_row(patch: &mut Patch, row: Option<RowRec>)
-    requires room { array_vec_len patch.old.items < 6 }
-    requires fits { IfSome row FitsRow }
-    requires other { IfSome row (λ one. All (λ item. item.id ≢ RecordId.Row one.place) patch.old.items.items) }
-    ensures items { patch.new.items.items ≡ patch.old.items.items ++ row_items row }
-    ensures valid { IsPatch patch.old.items.items → IsPatch patch.new.items.items }
+fn put_row<'r>(patch: &mut PatchView<'r>, row: &'r Option<RowRec>)
+    requires room { length patch.old < 6 }
+    ensures { patch.new ≡ patch.old ++ row_items row.now }
 {
     if let Some(row) = row {
-        patch.put(RecordId::Row(row.place), AnyRec::Row(row));
+        patch.put(RecordId::Row(row.place), RecordRef::Row(row));
     }
 }

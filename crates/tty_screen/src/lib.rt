@@ -7,7 +7,7 @@ mod laws;
 mod reading;
 mod ring;
 
-pub use drawing::byte_patch;
+pub use drawing::{BytePatch, byte_patch};
 pub use laws::{
     blank_terminals_show_blank_screens, bytes_are_drawn_in_turn, one_screen_is_shown,
     other_screens_stay, shown_terminals_decode,

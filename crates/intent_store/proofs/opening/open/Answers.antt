@@ -16,6 +16,6 @@ returns-in_err-store_area-2-clause-err g c =
 
 pub returns-clause-ok : goal.returns-clause-ok
 returns-clause-ok g c =
-    patch-opened c.args.patch.now.items.items (area_at (g.W.WordSource.words c.args.store.now) c.args.base) _ _ c.payload_length-count.result c.seal.result c.in_ok-spelled.spelled
+    patch-opened c.args.patch.now (area_at (g.W.WordSource.words c.args.store.now) c.args.base) _ _ c.payload_length-count.result c.seal.result c.in_ok-spelled.spelled
     c.in_ok-spelled.ensures.ok c.payload_length-count.ensures.exact c.payload_length-count.ensures.fits c.seal.ensures
     (c.in_ok-store_area-2.ensures.ok ∙ ap (λ (a : Area). updated a 16 c.payload_length-count.result) c.in_ok-store_area.ensures.ok)

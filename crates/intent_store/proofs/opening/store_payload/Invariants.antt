@@ -1,5 +1,6 @@
-use Rattle.std.proofs.Common.{◌≡◌, true, take}
+use Rattle.std.proofs.Common.{◌≡◌, true, map, take}
 use Rattle.record_layouts.specs.Held.{beside}
+use Rattle.record_layouts.specs.Parts.{item_of}
 use Rattle.record_layouts.specs.Overlay.{HasArea, area_at}
 use Rattle.intent_store.specs.Blocks.{IsShutLike}
 use Rattle.intent_store.specs.Payloads.{IsPatchSpelled}
@@ -7,11 +8,11 @@ use Rattle.word_store.specs.Stores.{KeepsUnstored}
 use Rattle.intent_store.proofs.opening.store_payload.Given as goal
 
 -- the records so far are spelled
-abbrev pub invariant-loop-item : goal.invariant-loop-item
-invariant-loop-item g l =
+abbrev pub invariant-loop-part : goal.invariant-loop-part
+invariant-loop-part g l =
     let words = g.W.WordSource.words in
     record {
-      so_far : IsPatchSpelled (take l.item-index l.item-items) (area_at (words l.fn.store) l.base) (area_at (words l.store) l.base) l.fn.begun l.spelled;
+      so_far : IsPatchSpelled (map item_of (take l.part-index l.part-items)) (area_at (words l.fn.store) l.base) (area_at (words l.store) l.base) l.fn.begun l.spelled;
       shut : IsShutLike (area_at (words l.fn.store) l.base) (area_at (words l.store) l.base);
       there : HasArea (words l.store) l.base;
       same_beside : beside l.base (words l.store) ≡ beside l.base (words l.fn.store);

@@ -1,5 +1,5 @@
 use Rattle.std.proofs.Common.{◌≡◌, Some}
-use Rattle.tty_screen.proofs.Showing.{draws, byte_items, put_together}
+use Rattle.tty_screen.proofs.Showing.{draws}
 use Rattle.tty_screen.proofs.drawing.byte_patch.Goals as goal
 
 -- the patch has the terminal's record and then the rows, where there are any
@@ -12,7 +12,5 @@ returns-clause-shows g c screen shows =
     let seen = c.seen_row-seen.result in
     let blanked = c.blanked_row-blanked.result in
     let there : records.terms tty ≡ Some before = cc in
-    let items : c.put_row-2.new.patch.items.items ≡ byte_items tty after seen blanked =
-    put_together _ _ _ c.new-patch.ensures.none c.put.ensures.items c.put_row.ensures.items c.put_row-2.ensures.items in
-    rw items (draws shows before after c.args.byte there c.after_byte-after.ensures.top c.after_byte-after.ensures.row c.after_byte-after.ensures.col
-    seen blanked c.seen_row-seen.ensures.row c.blanked_row-blanked.ensures.row)
+    draws shows before after c.args.byte there c.after_byte-after.ensures.top c.after_byte-after.ensures.row c.after_byte-after.ensures.col
+    seen blanked c.seen_row-seen.ensures.row c.blanked_row-blanked.ensures.row

@@ -20,14 +20,14 @@ returns-clause-ok c =
     let s = c.args.self.now.plant.now in
     let t = c.commit.new.store.plant.now in
     let is : c.map-base.result.area_base ≡ (map_of s).area_base = ap (λ (m : MemoryMap). m.area_base) c.map-base.ensures.map in
-    on_ok c.commit.result _ _ (λ e. committed_set s t c.map-base.result.area_base is c.commit.ensures.rest c.commit.ensures.beside c.args.patch.now.items.items c.requires.stands.armed.few_frames c.requires.patch.sectors e) c.commit.ensures.ok
+    on_ok c.commit.result _ _ (λ e. committed_set s t c.map-base.result.area_base is c.commit.ensures.rest c.commit.ensures.beside c.args.patch.now c.requires.stands.armed.few_frames c.requires.patch.sectors e) c.commit.ensures.ok
 
 pub returns-clause-err : goal.returns-clause-err
 returns-clause-err c =
     let s = c.args.self.now.plant.now in
     let t = c.commit.new.store.plant.now in
     let base = c.map-base.result.area_base in
-    let items = c.args.patch.now.items.items in
+    let items = c.args.patch.now in
     let is : base ≡ (map_of s).area_base = ap (λ (m : MemoryMap). m.area_base) c.map-base.ensures.map in
     let either : IsSeenAs (area_at (words_of s.memory) base) (area_at (words_of t.memory) base) ⊎ IsSeenSet items (area_at (words_of s.memory) base) (area_at (words_of t.memory) base)
     → (held_of t ≡ held_of s) ⊎ (held_of t ≡ patched items (held_of s)) = elim [
@@ -41,7 +41,7 @@ returns-clause-still_stands c =
     let s = c.args.self.now.plant.now in
     let t = c.commit.new.store.plant.now in
     let base = c.map-base.result.area_base in
-    let items = c.args.patch.now.items.items in
+    let items = c.args.patch.now in
     let is : base ≡ (map_of s).area_base = ap (λ (m : MemoryMap). m.area_base) c.map-base.ensures.map in
     either_way c.commit.result _
     (on_ok c.commit.result _ _ (λ e. held_either s t items c.requires.stands (inr (committed_set s t base is c.commit.ensures.rest c.commit.ensures.beside items c.requires.stands.armed.few_frames c.requires.patch.sectors e))) c.commit.ensures.ok)
