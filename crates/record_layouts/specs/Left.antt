@@ -1,5 +1,5 @@
 -- What a panic left of a process, by the records and by what was handed over, and the first part that cannot be read.
-use Rattle.std.specs.Prelude.{◌≡◌, ℕ, ◌<◌, ◌⊎◌, Bool, true, false, not, ◌==◌, ◌&&◌, ◌||◌, if◌then◌else◌, Option, Some, None, is_some}
+use Rattle.std.specs.Prelude.{◌≡◌, ℕ, ◌<◌, ◌⊎◌, Bool, true, false, not, ◌==◌, ◌&&◌, if◌then◌else◌, Option, Some, None, is_some}
 use Rattle.ow_base.specs.UserStep.{register}
 use Rattle.ow_base.specs.declared.machine.Bank.{Bank}
 use Rattle.ow_base.specs.declared.machine.Came.{Came}
@@ -9,6 +9,7 @@ use Rattle.record_layouts.specs.declared.proc.ProcRec.{ProcRec}
 use Rattle.record_layouts.specs.declared.dead_proc.DeadProc.{DeadProc}
 use Rattle.record_layouts.specs.declared.places.RecordId.{RecordId}
 use Rattle.record_layouts.specs.declared.places.RecordId.TheVariants as id
+use Rattle.record_layouts.specs.Unix.Abort.{is_aborted, stands_at}
 use Rattle.record_layouts.specs.Held.{Records}
 use Rattle.record_layouts.specs.Pages.{frame_of, high_place, is_linked, is_live, low_place, region_of}
 
@@ -63,18 +64,6 @@ unfoldable pub call_found : Option HandedOver → Option HeadRec → ProcRec →
 call_found handed head process =
     if process.state == 2 then Some process.call else
     if is_caller handed head process.pid then Some (register (left_rec handed head process).regs 17) else None
-
--- exit 1, sigreturn 14, crashreturn 16 and yield 18 are made again, and each other call is answered as aborted
-abbrev pub is_made_again : (number : ℕ) → Bool
-is_made_again number = number == 1 || number == 14 || number == 16 || number == 18
-
-abbrev pub stands_at : Option ℕ → Bool
-stands_at (Some number) = is_made_again number
-stands_at None = false
-
-abbrev pub is_aborted : Option ℕ → Bool
-is_aborted (Some number) = not (is_made_again number)
-is_aborted None = false
 
 -- what a panic left of the process in a slot that has this record
 unfoldable pub dead_proc : Records → Option HandedOver → (slot : ℕ) → ProcRec → DeadProc
