@@ -1,6 +1,7 @@
 //! What the panic left of a process.
 ghost use Rattle.std.specs.Prelude.{◌≡◌, ◌<◌};
-ghost use Rattle.record_layouts.specs.Left.{call_found, dead_proc, is_from_program, is_made_again, is_undone, left_rec};
+ghost use Rattle.record_layouts.specs.Left.{call_found, dead_proc, is_from_program, is_undone, left_rec};
+ghost use Rattle.record_layouts.specs.Unix.Abort.{is_made_again};
 ghost use Rattle.dead_reader.specs.Left.{handed_of, told_by};
 
 use ow_base::Came;
