@@ -1,0 +1,9 @@
+//! The resurrector: from what a kernel left that panicked, it builds one that can go on, in frames of its own.
+#![tactic(auto)]
+
+mod fates;
+mod procedures;
+mod survivors;
+
+pub use fates::Fate;
+pub use procedures::revive;
