@@ -3,3 +3,4 @@
 pub mod Reviving
 pub mod Descriptors
 pub mod Outcomes
+pub mod Pids

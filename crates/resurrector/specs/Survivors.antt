@@ -67,7 +67,8 @@ pub record AreOutcomes (r : Records) (handed : Option HandedOver) (outcomes : Li
   pub each : (slot : ℕ) → slot < 16 → slice_get outcomes slot ≡ Some (outcome_in r handed slot)
   pub fits : (slot : ℕ) → slot < 16 → IfSome (survivor_in r handed slot) IsSurvivor
   pub few : (slot : ℕ) → slot < 16 → HasFewBits (fate_in r handed slot)
-  -- behind the last user frame there is no owner
+  -- there are few user frames, and behind the last one there is no owner
+  pub few_frames : r.map.user_frames ≤ 384
   pub owned : (frame : ℕ) → r.map.user_frames ≤ frame → r.owners frame ≡ 0
 
 -- one of the processes that go on has this pid

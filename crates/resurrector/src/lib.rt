@@ -2,7 +2,9 @@
 #![tactic(auto)]
 
 mod fates;
+mod left;
 mod procedures;
+mod revived;
 mod survivors;
 
 pub use fates::Fate;
