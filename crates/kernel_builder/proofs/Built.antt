@@ -8,7 +8,7 @@ use Rattle.ow_base.specs.Words.{updated}
 use Rattle.record_layouts.specs.declared.memory_map.MemoryMap.{MemoryMap}
 use Rattle.record_layouts.specs.declared.places.RecordId.{RecordId}
 use Rattle.record_layouts.specs.Held.{beside, is_of_area}
-use Rattle.record_layouts.specs.Overlay.{Area, area_at, lies_in, may_change, or_zero}
+use Rattle.record_layouts.specs.Overlay.{Area, HasArea, area_at, lies_in, may_change, or_zero}
 use Rattle.record_layouts.specs.Places.{IsRecordId, first_word, length_of}
 use Rattle.record_layouts.specs.Seam.{IsSpelled}
 use Rattle.record_layouts.proofs.Intents.{words_from-same}
@@ -183,4 +183,25 @@ built map plan old some new has filled same is = record {
   area = filled_same map plan (area_at old map.area_base) (area_at some map.area_base) (area_at new map.area_base) (low_same map old some new has same) filled;
   pages = λ frame word holder less low held.
       ap (λ (ws : WordMap). ws (map.pool_base + frame) word) is ∙ pages_here map plan some frame word holder less low held;
+}
+
+-- the frames stay there
+pub frames_there : (old new : WordMap) (map : MemoryMap) → HasFrames old map → HasArea new map.area_base → HasPool new map → HasFrames new map
+frames_there old new map has area pool = record {
+  area = area;
+  low = has.low;
+  numbered = has.numbered;
+  few = has.few;
+  apart = has.apart;
+  there = pool.there;
+}
+
+pub area_there : (old some new : WordMap) (map : MemoryMap) → HasFrames old map → HasArea some map.area_base
+    → without_pool map new ≡ without_pool map some → HasArea new map.area_base
+area_there old some new map has area same = record {
+  numbered = area.numbered;
+  there = λ frame word less low.
+      let out : lies_in map.pool_base (map.pool_base + map.user_frames) (map.area_base + frame) ≡ false = grind (arith, nat_tests, has.apart) in
+      let e : new (map.area_base + frame) word ≡ some (map.area_base + frame) word = without_pool-at map some new same (map.area_base + frame) word out in
+      rw e (area.there frame word less low);
 }

@@ -2,6 +2,7 @@
 ghost use Rattle.std.specs.Prelude.{◌≡◌, ◌+◌, ◌*◌, ◌^◌, ◌<◌, ◌≤◌, true, OnOk, OnErr, IfSome};
 ghost use Rattle.record_layouts.specs.Held.{beside};
 ghost use Rattle.record_layouts.specs.Overlay.{HasArea, area_at};
+ghost use Rattle.kernel_builder.specs.Reading.{IsReadAs};
 ghost use Rattle.kernel_builder.specs.Plan.{HasFrames, claim_by, entry_word, owner_word, page_entry, root_entry};
 ghost use Rattle.kernel_builder.specs.Sets.{HasFrame, HasPool, IsBuilt, IsFilled, outside, with_frame, with_owners, with_pages, with_slot, with_table, with_tables, without, without_pool};
 
@@ -307,6 +308,8 @@ pub fn build_kernel<B: Blueprint, S: WordStore>(
     requires frames { B.frames blueprint.now ≡ map.now.user_frames }
     requires stands { B.stands blueprint.now }
     ensures built { OnOk result (IsBuilt map.now (B.plan blueprint.now) (S.words store.old) (S.words store.new)) }
+    ensures read { OnOk result (IsReadAs map.now (B.plan blueprint.now) (S.words store.new)) }
+    ensures frames { HasFrames (S.words store.new) map.now }
     ensures outside { outside map.now (S.words store.new) ≡ outside map.now (S.words store.old) }
     ensures rest { S.rest store.new ≡ S.rest store.old }
     ensures stays { OnOk result (S.able store.new ≡ true) }

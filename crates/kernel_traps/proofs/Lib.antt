@@ -18,7 +18,6 @@ pub mod UserTurns
 pub mod Refusals
 pub mod Decoding
 pub mod BootStores
-pub mod BootRecords
 pub mod BootReads
 pub mod BootLayout
 pub mod BootReady

@@ -1,6 +1,5 @@
 -- The records of a kernel that has booted.
 use Rattle.std.specs.Prelude.{ℕ, ◌+◌, ◌-◌, nat_lt, nat_le, if◌then◌else◌, List, [], ◌∷◌, length, replicate, slice_get, Option, Some, None}
-use Rattle.ow_base.specs.Screen.{blank_row}
 use Rattle.ow_base.specs.World.{page_count}
 use Rattle.ow_base.specs.declared.worlds.Load.{Load}
 use Rattle.ow_base.specs.declared.worlds.Program.{Program}
@@ -14,39 +13,14 @@ use Rattle.record_layouts.specs.declared.head.HeadRec.{HeadRec}
 use Rattle.record_layouts.specs.declared.proc.ProcRec.{ProcRec}
 use Rattle.record_layouts.specs.declared.sig.SigRec.{SigRec}
 use Rattle.record_layouts.specs.declared.desc.DescRec.{DescRec}
-use Rattle.record_layouts.specs.declared.file.FileRec.{FileRec}
-use Rattle.record_layouts.specs.declared.cache.CacheRec.{CacheRec}
 use Rattle.record_layouts.specs.declared.term.TermRec.{TermRec}
-use Rattle.record_layouts.specs.declared.row.RowRec.{RowRec}
 use Rattle.record_layouts.specs.declared.exit.ExitRec.{ExitRec}
-use Rattle.process_table.specs.Patches.{blank_bank}
+pub use Rattle.kernel_builder.specs.Blank.{blank_bank, blank_row_record, empty_entry, free_process, unused_description, unused_file}
 use Rattle.kernel_traps.specs.Boot.{program_in}
 
 -- no trap is served, no process was the last one, and the next pid is the one behind the starts
 abbrev pub booted_head : Load → HeadRec
 booted_head load = record { layout = 1; served = 0; last = 0; next = length load.starts + 1; hand = 0 }
-
--- a slot without a process
-abbrev pub free_process : ProcRec
-free_process = record {
-  state = 0;
-  pid = 0;
-  parent = 0;
-  call = 0;
-  done = 0;
-  code_pages = 0;
-  data_pages = 0;
-  brk = 0;
-  procedure = 0;
-  mask = 0;
-  flags = 0;
-  status = 0;
-  descs = replicate 8 0;
-  regs = replicate 31 0;
-  pc = 0;
-  handler_save = blank_bank;
-  crash_save = blank_bank;
-}
 
 -- the descriptors 0, 1 and 2 name one description, by its number and one
 abbrev pub started_descs : (word : ℕ) → List ℕ
@@ -92,23 +66,14 @@ booted_signals load slot = record {
 -- the description of a start is open on its terminal, to read and to write
 abbrev pub description_for : Option Started → DescRec
 description_for (Some start) = record { object = 2; index = start.tty; mode = 3; offset = 0 }
-description_for None = record { object = 0; index = 0; mode = 0; offset = 0 }
+description_for None = unused_description
 
 unfoldable pub booted_description : Load → (index : ℕ) → DescRec
 booted_description load index = description_for (slice_get load.starts index)
 
-abbrev pub unused_file : FileRec
-unused_file = record { state = 0; name_len = 0; name = replicate 24 0; size = 0; kept = 0; sectors = replicate 64 0 }
-
-abbrev pub empty_entry : CacheRec
-empty_entry = record { state = 0; file = 0; page = 0 }
-
 -- nothing is written on a terminal
 abbrev pub silent_record : (tty : ℕ) → TermRec
 silent_record tty = record { tty = tty; written = 0; last = 0; consumed = 0; top = 0; row = 0; col = 0; base = 0 }
-
-abbrev pub blank_row_record : (place : ℕ) → RowRec
-blank_row_record place = record { place = place; text = blank_row }
 
 -- the pids of the starts are live, each in the slot of its start
 unfoldable pub booted_exit : Load → (pid : ℕ) → ExitRec

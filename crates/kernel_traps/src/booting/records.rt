@@ -6,21 +6,17 @@ ghost use Rattle.record_layouts.specs.Proc.{FitsProc};
 ghost use Rattle.record_layouts.specs.Sig.{FitsSig};
 ghost use Rattle.record_layouts.specs.Desc.{FitsDesc};
 ghost use Rattle.record_layouts.specs.Exit.{FitsExit};
-ghost use Rattle.record_layouts.specs.File.{FitsFile};
-ghost use Rattle.record_layouts.specs.Cache.{FitsCache};
 ghost use Rattle.record_layouts.specs.Term.{FitsTerm};
-ghost use Rattle.record_layouts.specs.Row.{FitsRow};
 ghost use Rattle.record_layouts.specs.Patch.{FitsAny, IsOfKind};
 ghost use Rattle.record_layouts.specs.Places.{IsRecordId};
-ghost use Rattle.process_table.specs.Patches.{blank_bank as empty_bank};
 ghost use Rattle.kernel_traps.specs.Boot.{IsBootable, IsLoadable, program_in};
-ghost use Rattle.kernel_traps.specs.BootRecords.{booted_description, booted_exit, booted_head, booted_process, booted_record, booted_signals, started_record as record_of_start, free_process, unused_file, empty_entry, silent_record, blank_row_record};
+ghost use Rattle.kernel_traps.specs.BootRecords.{booted_description, booted_exit, booted_head, booted_process, booted_record, booted_signals, silent_record, started_record as record_of_start};
 
-use ow_base::{Bank, FRAME_WORDS, Load, Program, Regs};
-use record_layouts::{
-    AnyRec, CacheRec, DescRec, ExitRec, FileRec, HeadRec, ProcRec, RecordId, RowRec, SigRec,
-    TermRec,
+use kernel_builder::{
+    blank_bank, blank_row, empty_entry, free_process, no_signals, unused_description, unused_file,
 };
+use ow_base::{FRAME_WORDS, Load, Program, Regs};
+use record_layouts::{AnyRec, DescRec, ExitRec, HeadRec, ProcRec, RecordId, SigRec, TermRec};
 
 // The words of a page.
 const PAGE_LENGTH: usize = FRAME_WORDS as usize;
@@ -32,9 +28,6 @@ const CODE_START: u32 = 0x10000;
 const STACK_START: u32 = 0x7fff_fff0;
 
 const STACK_POINTER: u32 = 2;
-
-// What a blank row has in each place.
-const BLANK: u8 = 32;
 
 /// How many pages so many words need.
 pub(crate) fn pages_for(words: &[u32]) -> u32
@@ -56,16 +49,6 @@ pub(crate) fn program_at(load: &Load, slot: u32) -> Option<&Program>
     Some(&load.programs.items()[start.program as usize])
 }
 
-// All registers and the pc are 0.
-fn blank_bank() -> Bank
-    ensures { result ≡ empty_bank }
-{
-    Bank {
-        pc: 0,
-        regs: Regs::new(),
-    }
-}
-
 fn head_record(load: &Load) -> HeadRec
     requires { IsBootable load.now }
     ensures is { result ≡ booted_head load.now }
@@ -77,32 +60,6 @@ fn head_record(load: &Load) -> HeadRec
         last: 0,
         next: load.starts.items().len() as u32 + 1,
         hand: 0,
-    }
-}
-
-// A slot without a process.
-fn free_record() -> ProcRec
-    ensures is { result ≡ free_process }
-    ensures fits { FitsProc result }
-{
-    ProcRec {
-        state: 0,
-        pid: 0,
-        parent: 0,
-        call: 0,
-        done: 0,
-        code_pages: 0,
-        data_pages: 0,
-        brk: 0,
-        procedure: 0,
-        mask: 0,
-        flags: 0,
-        status: 0,
-        descs: [0; 8],
-        regs: Regs::new(),
-        pc: 0,
-        handler_save: blank_bank(),
-        crash_save: blank_bank(),
     }
 }
 
@@ -148,7 +105,7 @@ fn process_record(load: &Load, slot: u32) -> ProcRec
 {
     match program_at(load, slot) {
         Some(program) => started_record(slot, program),
-        None => free_record(),
+        None => free_process(),
     }
 }
 
@@ -161,11 +118,7 @@ fn signal_record(load: &Load, slot: u32) -> SigRec
     ensures fits { FitsSig result }
 {
     let is_started = (slot as usize) < load.starts.items().len();
-    SigRec {
-        pid: if is_started { slot + 1 } else { 0 },
-        pending: 0,
-        handlers: [0; 15],
-    }
+    no_signals(if is_started { slot + 1 } else { 0 })
 }
 
 // The description of a start, which is open on its terminal, to read and to write.
@@ -182,12 +135,7 @@ fn description_record(load: &Load, index: u32) -> DescRec
             mode: 3,
             offset: 0,
         },
-        None => DescRec {
-            object: 0,
-            index: 0,
-            mode: 0,
-            offset: 0,
-        },
+        None => unused_description(),
     }
 }
 
@@ -209,33 +157,6 @@ fn exit_record(load: &Load, pid: u32) -> ExitRec
     }
 }
 
-// No file.
-fn no_file() -> FileRec
-    ensures is { result ≡ unused_file }
-    ensures fits { FitsFile result }
-{
-    FileRec {
-        state: 0,
-        name_len: 0,
-        name: [0; 24],
-        size: 0,
-        kept: 0,
-        sectors: [0; 64],
-    }
-}
-
-// An entry of the page cache that holds no page.
-fn empty_cache() -> CacheRec
-    ensures is { result ≡ empty_entry }
-    ensures fits { FitsCache result }
-{
-    CacheRec {
-        state: 0,
-        file: 0,
-        page: 0,
-    }
-}
-
 // A terminal on which nothing is written.
 fn silent_terminal(tty: u32) -> TermRec
     requires { tty < 2 }
@@ -254,18 +175,6 @@ fn silent_terminal(tty: u32) -> TermRec
     }
 }
 
-// A blank row.
-fn blank_row(place: u32) -> RowRec
-    requires { place < 48 }
-    ensures is { result ≡ blank_row_record place }
-    ensures fits { FitsRow result }
-{
-    RowRec {
-        place,
-        text: [BLANK; 80],
-    }
-}
-
 /// The record that a new kernel begins with, by its id.
 pub(crate) fn boot_record(load: &Load, id: RecordId) -> AnyRec
     requires load { IsBootable load.now }
@@ -279,8 +188,8 @@ pub(crate) fn boot_record(load: &Load, id: RecordId) -> AnyRec
         RecordId::Proc(slot) => AnyRec::Proc(process_record(load, slot)),
         RecordId::Sig(slot) => AnyRec::Sig(signal_record(load, slot)),
         RecordId::Desc(index) => AnyRec::Desc(description_record(load, index)),
-        RecordId::File(_) => AnyRec::File(no_file()),
-        RecordId::Cache(_) => AnyRec::Cache(empty_cache()),
+        RecordId::File(_) => AnyRec::File(unused_file()),
+        RecordId::Cache(_) => AnyRec::Cache(empty_entry()),
         RecordId::Term(tty) => AnyRec::Term(silent_terminal(tty)),
         RecordId::Row(place) => AnyRec::Row(blank_row(place)),
         RecordId::Exit(pid) => AnyRec::Exit(exit_record(load, pid)),

@@ -1,4 +1,4 @@
-use Rattle.std.proofs.Common.{rules, ◌≡◌, ℕ, Option, Some, true, ap, subst}
+use Rattle.std.proofs.Common.{rules, ◌≡◌, Option, true, ap, subst}
 use Rattle.ow_base.specs.Pages.{is_readable}
 use Rattle.phys_memory.specs.Memory.{words_of}
 use Rattle.record_layouts.specs.declared.proc.ProcRec.{ProcRec}

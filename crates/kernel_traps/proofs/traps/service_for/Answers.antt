@@ -1,4 +1,4 @@
-use Rattle.std.proofs.Common.{◌≡◌, ◌∙◌, true, ap, is_some}
+use Rattle.std.proofs.Common.{◌∙◌, ap, is_some}
 use Rattle.record_layouts.specs.Held.{Records}
 use Rattle.kernel_traps.proofs.Decoding.{head_decodes}
 use Rattle.kernel_traps.proofs.Stays.{view_is}

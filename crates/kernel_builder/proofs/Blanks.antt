@@ -1,12 +1,11 @@
--- The records that a kernel boots with can be spelled.
+-- The records of what a kernel does not have can be spelled.
 use Rattle.std.proofs.Common.{ℕ, ◌<◌, replicate, refl, arith}
 use Rattle.std.proofs.lemmas.List.{get_or-replicate}
 use Rattle.std.proofs.lemmas.List.Elements.{All-nil}
 use Rattle.record_layouts.specs.Spelling.{AreZero}
 use Rattle.record_layouts.specs.Proc.{FitsProc, IsBlankBank, IsOver}
 use Rattle.record_layouts.specs.File.{FitsFile}
-use Rattle.process_table.specs.Patches.{blank_bank}
-use Rattle.kernel_traps.specs.BootRecords.{free_process, unused_file}
+use Rattle.kernel_builder.specs.Blank.{blank_bank, free_process, unused_file}
 
 zeros : (count : ℕ) → AreZero (replicate count 0) 0 count
 zeros count k from to = get_or-replicate count k 0 0 to

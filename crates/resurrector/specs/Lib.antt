@@ -1,0 +1,4 @@
+-- What a panic makes of the processes that it left, which of them go on, and what a new kernel begins with.
+pub mod Procedures
+pub mod Survivors
+pub mod Revived
