@@ -5,8 +5,8 @@ use Rattle.ow_base.specs.Words.{minus, wrapped}
 use Rattle.ow_base.specs.declared.machine.Bank.{Bank}
 use Rattle.record_layouts.specs.declared.dead_proc.DeadProc.{DeadProc}
 use Rattle.record_layouts.specs.declared.proc.ProcRec.{ProcRec}
-use Rattle.resurrector.specs.declared.fates.Fate.{Fate}
-use Rattle.resurrector.specs.declared.fates.Fate.TheVariants as fate
+use Rattle.record_layouts.specs.declared.fates.Fate.{Fate}
+use Rattle.record_layouts.specs.declared.fates.Fate.TheVariants as fate
 
 -- a call that is answered ECRASH, 200: control is behind it
 abbrev pub aborted_call : ProcRec → ProcRec

@@ -23,8 +23,8 @@ use Rattle.kernel_builder.specs.declared.blueprint.Holder.{Holder}
 use Rattle.kernel_builder.specs.Blank.{blank_row_record, empty_entry, free_process, no_signals, unused_description, unused_file}
 use Rattle.kernel_builder.specs.Plan.{Plan}
 use Rattle.resurrector.specs.Survivors.{fate_of, goes_on, is_named, survivor_in}
-use Rattle.resurrector.specs.declared.fates.Fate.{Fate}
-use Rattle.resurrector.specs.declared.fates.Fate.TheVariants as fate
+use Rattle.record_layouts.specs.declared.fates.Fate.{Fate}
+use Rattle.record_layouts.specs.declared.fates.Fate.TheVariants as fate
 
 -- The head. The trap that broke counts as served, and the process of that trap, if it had one, was the last. Without the
 -- head of before no process goes on, and the next pid is one more than the greatest that was given away.

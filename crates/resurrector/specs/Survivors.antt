@@ -12,8 +12,8 @@ use Rattle.record_layouts.specs.Unix.Choice.{is_any}
 use Rattle.dead_reader.specs.Losses.{bits_lost}
 use Rattle.resurrector.specs.Procedures.{HasFewBits, fate_with, is_lost, revived}
 use Rattle.resurrector.specs.declared.survivors.Outcome.{Outcome}
-use Rattle.resurrector.specs.declared.fates.Fate.{Fate}
-use Rattle.resurrector.specs.declared.fates.Fate.TheVariants as fate
+use Rattle.record_layouts.specs.declared.fates.Fate.{Fate}
+use Rattle.record_layouts.specs.declared.fates.Fate.TheVariants as fate
 
 -- what the panic left of the process in a slot, where all parts of it decode
 abbrev pub left_by : Records → Option HandedOver → (slot : ℕ) → Option ℕ → Option ProcRec → Option DeadProc

@@ -14,11 +14,10 @@ ghost use Rattle.resurrector.specs.Procedures.{HasFewBits};
 ghost use Rattle.resurrector.specs.Revived.{ended_or_free, exit_with, fate_or_lost, head_by, last_by, next_behind, reset_terminal, revived_description, revived_exit, revived_head, revived_process, revived_row, revived_signals, revived_terminal, row_or_blank, served_by, terminal_or_reset};
 ghost use Rattle.resurrector.specs.Survivors.{AreOutcomes, IsSurvivor, fate_of, goes_on, has_pid, is_named, names, names_by, survivor_in};
 
-use crate::fates::Fate;
 use crate::survivors::Outcome;
 use dead_reader::{HandOver, RecordView};
 use kernel_builder::{blank_row, free_process, no_signals, unused_description};
-use record_layouts::{DescRec, ExitRec, HeadRec, ProcRec, RowRec, SigRec, TermRec};
+use record_layouts::{DescRec, ExitRec, Fate, HeadRec, ProcRec, RowRec, SigRec, TermRec};
 
 // How many processes there can be, and the end of their pids.
 const SLOTS: u32 = 16;

@@ -1,11 +1,10 @@
 //! The resurrector: from what a kernel left that panicked, it builds one that can go on, in frames of its own.
 #![tactic(auto)]
 
-mod fates;
 mod left;
 mod procedures;
 mod revived;
 mod survivors;
 
-pub use fates::Fate;
 pub use procedures::revive;
+pub use record_layouts::Fate;

@@ -4,9 +4,8 @@ ghost use Rattle.record_layouts.specs.Pages.{is_live};
 ghost use Rattle.record_layouts.specs.Proc.{FitsProc};
 ghost use Rattle.resurrector.specs.Procedures.{HasFewBits, aborted_call, bits_told, brought_out, context_saved, fate_by_call, fate_with, in_procedure, is_in_procedure, mask_told, revived};
 
-use crate::fates::Fate;
 use ow_base::Bank;
-use record_layouts::{DeadProc, ProcRec};
+use record_layouts::{DeadProc, Fate, ProcRec};
 
 // The answer of a call that a panic broke off: minus ECRASH, which is 200.
 const BROKEN_OFF: u32 = 0u32.wrapping_sub(200);

@@ -9,10 +9,9 @@ ghost use Rattle.dead_reader.specs.Processes.{IsDead};
 ghost use Rattle.resurrector.specs.Procedures.{HasFewBits, fate_with, is_lost, revived};
 ghost use Rattle.resurrector.specs.Survivors.{AreOutcomes, IsSurvivor, fate_in, is_closed_by, kept_open, left_in, outcome_in, survivor_in, with_descriptors};
 
-use crate::fates::Fate;
 use crate::procedures::revive;
 use dead_reader::{DeadMemory, DeadProc, DeadView, RecordView};
-use record_layouts::{DescRec, ProcRec};
+use record_layouts::{DescRec, Fate, ProcRec};
 
 // How many processes there can be.
 const SLOTS: u32 = 16;
@@ -115,10 +114,7 @@ fn is_lost(fate: Fate) -> bool
 
 // The fate of the process in a slot, and the record with which it goes on.
 #[tactic(auto, unfolding(crate::specs::Survivors::fate_in, crate::specs::Survivors::survivor_in))]
-fn fate_and_survivor<M: DeadMemory>(
-    view: &DeadView<'_, M>,
-    slot: u32,
-) -> (Fate, Option<ProcRec>)
+fn fate_and_survivor<M: DeadMemory>(view: &DeadView<'_, M>, slot: u32) -> (Fate, Option<ProcRec>)
     requires { slot < 16 }
     ensures fate { result.0 ≡ fate_in (records_left (M.dead view.now.memory.now) (M.words view.now.memory.now)) (handed_of (M.dead view.now.memory.now).handover) slot }
     ensures few { HasFewBits result.0 }
