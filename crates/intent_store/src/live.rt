@@ -12,8 +12,8 @@ use crate::word_store::WordStore;
 use ow_base::{Now, Panicked, WordSource};
 use ow_plant::Plant;
 use record_layouts::{
-    AreaView, CacheRec, DescRec, ExitRec, FileRec, HeadRec, MemoryMap, PatchView, ProcRec, RecordView,
-    RowRec, SigRec, TermRec, Writer,
+    AreaView, CacheRec, DescRec, ExitRec, FileRec, HeadRec, MemoryMap, PatchView, ProcRec,
+    RecordView, RowRec, SigRec, TermRec, Writer,
 };
 
 // Where the frames of the kernel are that runs on a plant.
