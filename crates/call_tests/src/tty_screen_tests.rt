@@ -136,7 +136,11 @@ fn patches_of_bytes(rt: HostRuntime) -> Result<(), Fail> {
             id: RecordId::Term(1),
             rec: AnyRec::Term(term),
         };
-        assert_eq!(rt; parts.first().and_then(item_of), Some(first), "{before:?} {byte}");
+        assert_eq!(rt;
+            parts.first().and_then(item_of),
+            Some(first),
+            "{before:?} {byte}"
+        );
         let others = parts.iter().skip(1).map(item_of);
         assert!(rt;
             others.eq(rows.iter().map(|row| Some(row_item(row.0, row.1)))),
