@@ -3,11 +3,11 @@
 ghost use Rattle.std.specs.Prelude.{◌≡◌, ◌≤◌, ◌<◌, true, IfOk};
 ghost use Rattle.ow_plant.specs.State.{silent_device};
 
-use test_fixtures::point;
 use ow_base::{Bank, Came, Fault, Regs, Shape, WordSource};
 use ow_plant::{Plant, UserEnd};
 use std::alloc::{AllocError, Global};
 use std::test::Fail;
+use test_fixtures::point;
 
 /// Bytes, written so often, where the cursor is then, and a byte that is seen at a row and a column.
 struct Shown {
