@@ -1,8 +1,8 @@
 //! Walks through a small memory. What each must answer is worked out from the manual.
 
-use test_fixtures::SmallMemory;
 use std::test::Fail;
 use sv32_tables::{Access, PageCause, Phys, Rights, leaf, pointer, walk};
+use test_fixtures::SmallMemory;
 
 const MODE: u32 = 0x8000_0000;
 
