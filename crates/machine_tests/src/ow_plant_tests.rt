@@ -5,7 +5,7 @@ ghost use Rattle.ow_base.specs.declared.machine.AreaId.TheVariants.{A};
 ghost use Rattle.phys_memory.specs.Halves.{words_beside};
 ghost use Rattle.ow_plant.specs.State.{IsArmed, silent_device};
 
-use ow_base::{AreaId, Bank, Came, Fault, Regs, Shape, WordSource};
+use ow_base::{AreaId, Bank, Came, Fault, PanicRecord, Regs, Shape, WordSource};
 use ow_plant::{DeadMemory, HandOver, Own, Plant, UserEnd};
 use std::alloc::{AllocError, Global};
 use std::test::Fail;
@@ -118,7 +118,10 @@ fn set(plant: &mut Plant, frame: u32, word: u32, value: u32) -> bool
     requires armed { plant.old.armed ≡ true }
     requires word { word < 1024 }
     ensures armed { plant.new.armed ≡ true }
+    ensures sized { IsArmed plant.old → IsArmed plant.new }
     ensures silent { plant.new.tty1 ≡ plant.old.tty1 }
+    ensures runs { plant.new.reviving ≡ plant.old.reviving }
+    ensures area { plant.new.live ≡ plant.old.live }
 {
     match WordSource::load(plant, frame, word) {
         Some(_) => plant.store(frame, word, value).is_ok(),
@@ -286,8 +289,8 @@ fn broken(alloc: Global, store: u32) -> Result<Plant, AllocError>
     plant.arm(alloc, SHAPE, &[], &[], &points)?;
     plant.to_user(3, &calling(), ROOT);
     plant.enter(Came::Call, 3);
-    let _ = plant.store(CODE, 5, 77);
-    let _ = plant.store(OWN, 5, 78);
+    let _ = set(&mut plant, CODE, 5, 77);
+    let _ = set(&mut plant, OWN, 5, 78);
     let _ = plant.put(1, b'x');
     Ok(plant)
 }
@@ -340,16 +343,43 @@ fn read_all<M: DeadMemory>(memory: &M) -> Remains {
     }
 }
 
-/// Makes one store of each kind in what is lent, and tells what was left for reading meanwhile, and what of the own half
-/// can be read; or `None`, where a store is refused. What is left stays as it was.
-#[tactic(auto, unfolding(phys_memory::specs::Memory::words_of))]
-fn revived(plant: &mut Plant) -> Option<(Remains, (Option<u32>, Option<u32>))>
+/// What a kernel that takes over comes to: whether none of its stores was refused, and what it reads in a frame of its own
+/// and in one of the dead half.
+#[derive(Clone, Copy, Debug, PartialEq, Eq)]
+struct Stored {
+    all: bool,
+    own: Option<u32>,
+    dead: Option<u32>,
+}
+
+/// Makes one store of each kind in what is lent.
+fn store_each(own: &mut Own<'_>) -> Stored
+    requires room { own.old.lent.now.tty1.room ≡ 160 }
+    requires few { length own.old.lent.now.tty1.tape ≤ 1 }
+    ensures length { length own.new.lent.now.own ≡ length own.old.lent.now.own }
+    ensures place { own.new.place ≡ own.old.place }
+    ensures same_reference { own.new.lent.ghost_name ≡ own.old.lent.ghost_name }
+{
+    let all = own.has_frame(OWN)
+        && own.store(OWN, 7, 9).is_ok()
+        && own.put(1, b'y').is_ok()
+        && own.paint(0, 3, &[b'r'; 80]).is_ok()
+        && own.cursor(0, 4, 5).is_ok();
+    Stored {
+        all,
+        own: own.load(OWN, 7),
+        dead: own.load(CODE, 5),
+    }
+}
+
+/// Makes one store of each kind in what is lent, and tells what was left for reading then. What is left stays as it was.
+fn revived(plant: &mut Plant) -> (Stored, Remains)
     requires armed { IsArmed plant.old }
     requires revives { plant.old.reviving ≡ true }
     requires area { plant.old.live ≡ A }
     requires room { plant.old.tty1.room ≡ 160 }
     requires few { length plant.old.tty1.tape ≤ 1 }
-    ensures armed { IsArmed plant.new }
+    ensures armed { plant.new.armed ≡ true }
     ensures area { plant.new.live ≡ A }
     ensures revives { plant.new.reviving ≡ true }
     ensures dead { words_beside plant.new.memory A ≡ words_beside plant.old.memory A }
@@ -357,14 +387,20 @@ fn revived(plant: &mut Plant) -> Option<(Remains, (Option<u32>, Option<u32>))>
     let (dead, own) = plant.resurrection();
     let Own { lent, place } = own;
     let mut own = Own { lent, place };
-    if !own.has_frame(OWN) {
-        return None;
-    }
-    own.store(OWN, 7, 9).ok()?;
-    own.put(1, b'y').ok()?;
-    own.paint(0, 3, &[b'r'; 80]).ok()?;
-    own.cursor(0, 4, 5).ok()?;
-    Some((read_all(&dead), (own.load(OWN, 7), own.load(CODE, 5))))
+    let stored = store_each(&mut own);
+    (stored, read_all(&dead))
+}
+
+/// The trap of a panic, the stores made in it and the store that was listed, whether the end of the trap was refused, and
+/// the process.
+fn stands_of(entry: &PanicRecord) -> (u32, u32, u32, bool, u32) {
+    (
+        entry.trap,
+        entry.store,
+        entry.listed,
+        entry.at_leave,
+        entry.pid,
+    )
 }
 
 /// What is seen of terminal 0 at a row and of its cursor, and of terminal 1 at its first place.
@@ -395,46 +431,66 @@ const PANICS: [(u32, u32, bool, (u32, u32), u32); 5] = [
     (9, 3, true, (77, 78), 1),
 ];
 
+/// What is read after a panic: the words of the dead half and of the other one, and the bytes written on terminal 1.
+fn what_is_left(dead: u32, own: Option<u32>, written: u32) -> Remains {
+    let handover = HandOver {
+        trap: 1,
+        pid: 3,
+        came: Came::Call,
+        bank: calling(),
+    };
+    Remains {
+        words: (Some(0x4841_4e44), Some(dead), own),
+        counts: (0, written),
+        handover: Some(handover),
+        area: AreaId::A,
+        frames: 16,
+    }
+}
+
+const STORED: Stored = Stored {
+    all: true,
+    own: Some(9),
+    dead: None,
+};
+
+const BLANK: Sights = Sights {
+    row: b' ',
+    cursor: (0, 0),
+    first: b' ',
+};
+
+const REVIVED: Sights = Sights {
+    row: b'r',
+    cursor: (4, 5),
+    first: b'y',
+};
+
 #[test]
 fn panics_are_entered_and_ended(rt: HostRuntime) -> Result<(), Fail> {
     for (listed, store, at_leave, (dead, own), written) in PANICS {
         let mut plant = broken(rt.alloc(), listed)?;
         assert!(rt; panicked(&mut plant));
         assert_eq!(rt; plant.stores_made(), 0);
-        assert_eq!(rt; seen(&plant), Sights { row: b' ', cursor: (0, 0), first: b' ' });
-        let handover = HandOver {
-            trap: 1,
-            pid: 3,
-            came: Came::Call,
-            bank: calling(),
-        };
-        let left = Remains {
-            words: (Some(0x4841_4e44), Some(dead), None),
-            counts: (0, written),
-            handover: Some(handover),
-            area: AreaId::A,
-            frames: 16,
-        };
-        assert_eq!(rt; revived(&mut plant), Some((left, (Some(9), None))));
-        let revived_to = Sights { row: b'r', cursor: (4, 5), first: b'y' };
-        assert_eq!(rt; seen(&plant), revived_to);
+        assert_eq!(rt; seen(&plant), BLANK);
+        let left = what_is_left(dead, None, written);
+        assert_eq!(rt; revived(&mut plant), (STORED, left));
+        assert_eq!(rt; seen(&plant), REVIVED);
         assert_eq!(rt; plant.stores_made(), 4);
         assert_eq!(rt; plant.tape(1).len(), written as usize + 1);
-        assert_eq!(rt; WordSource::load(&plant, OWN, 7), Some(9));
         assert_eq!(rt; WordSource::load(&plant, CODE, 5), Some(dead));
         assert!(rt; plant.set_live(AreaId::B).is_ok());
         assert_eq!(rt; plant.live(), AreaId::B);
         assert_eq!(rt; WordSource::load(&plant, OWN, 7), Some(9));
-        let [entry] = plant.history() else {
-            panic!(rt; "not one panic");
-        };
-        assert_eq!(rt; (entry.trap, entry.store, entry.listed), (1, store, listed));
-        assert_eq!(rt; (entry.at_leave, entry.pid, entry.tapes), (at_leave, 3, [0, written]));
-        let recorded = Remains { words: (left.words.0, left.words.1, Some(own)), ..left };
-        assert_eq!(rt; read_all(entry), recorded);
+        let recorded = what_is_left(dead, Some(own), written);
+        assert_eq!(rt; plant.history().len(), 1);
+        for entry in plant.history() {
+            assert_eq!(rt; stands_of(entry), (1, store, listed, at_leave, 3));
+            assert_eq!(rt; read_all(entry), recorded);
+        }
         plant.enter(Came::Kernel, 1);
         assert!(rt; plant.cursor(0, 0, 0).is_err());
-        assert_eq!(rt; plant.display(0).at(), (4, 5));
+        assert_eq!(rt; seen(&plant), REVIVED);
     }
     Ok(())
 }
