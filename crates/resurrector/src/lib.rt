@@ -4,8 +4,10 @@
 mod fates;
 mod left;
 mod procedures;
+mod resurrecting;
 mod revived;
 mod survivors;
 
 pub use fates::Fate;
 pub use procedures::revive;
+pub use resurrecting::{Revival, resurrect_into};

@@ -115,10 +115,7 @@ fn is_lost(fate: Fate) -> bool
 
 // The fate of the process in a slot, and the record with which it goes on.
 #[tactic(auto, unfolding(crate::specs::Survivors::fate_in, crate::specs::Survivors::survivor_in))]
-fn fate_and_survivor<M: DeadMemory>(
-    view: &DeadView<'_, M>,
-    slot: u32,
-) -> (Fate, Option<ProcRec>)
+fn fate_and_survivor<M: DeadMemory>(view: &DeadView<'_, M>, slot: u32) -> (Fate, Option<ProcRec>)
     requires { slot < 16 }
     ensures fate { result.0 ≡ fate_in (records_left (M.dead view.now.memory.now) (M.words view.now.memory.now)) (handed_of (M.dead view.now.memory.now).handover) slot }
     ensures few { HasFewBits result.0 }
@@ -153,6 +150,7 @@ fn outcome_of<M: DeadMemory>(view: &DeadView<'_, M>, slot: u32) -> Outcome
 
 /// What became of the processes in all slots.
 pub(crate) fn outcomes<M: DeadMemory>(view: &DeadView<'_, M>) -> [Outcome; 16]
+    requires { (M.dead view.now.memory.now).user_frames ≤ 384 }
     ensures { AreOutcomes (records_left (M.dead view.now.memory.now) (M.words view.now.memory.now)) (handed_of (M.dead view.now.memory.now).handover) result }
 {
     let nothing = Outcome {

@@ -12,5 +12,5 @@ invariant-loop-slot g l =
       long : length l.outcomes ≡ 16;
       each : (slot : ℕ) → slot < l.slot → slice_get l.outcomes slot ≡ Some (outcome_in r handed slot);
       fits : (slot : ℕ) → slot < l.slot → IfSome (survivor_in r handed slot) IsSurvivor;
-      few : (slot : ℕ) → slot < l.slot → HasFewBits (fate_in r handed slot)
+      few : (slot : ℕ) → slot < l.slot → HasFewBits (fate_in r handed slot);
     }
