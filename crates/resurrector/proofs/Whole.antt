@@ -1,10 +1,9 @@
 -- Each record of the new kernel decodes.
-use Rattle.std.proofs.Common.{◌≡◌, ℕ, ◌<◌, true, is_some, refl, ap}
+use Rattle.std.proofs.Common.{ℕ, ◌<◌, is_some, refl, ap}
 use Rattle.std.proofs.lemmas.List.Elements.{All-nil}
 use Rattle.ow_base.specs.Sv32.{WordMap}
 use Rattle.ow_plant.specs.Dead.{DeadState}
 use Rattle.record_layouts.specs.declared.memory_map.MemoryMap.{MemoryMap}
-use Rattle.record_layouts.specs.declared.places.RecordId.{RecordId}
 use Rattle.record_layouts.specs.declared.places.RecordId.TheVariants as id
 use Rattle.record_layouts.specs.Held.{AreComplete}
 use Rattle.record_layouts.specs.Reading.{records_of}

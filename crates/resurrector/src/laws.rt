@@ -8,7 +8,6 @@ ghost use Rattle.kernel_builder.specs.Reading.{IsReadAs};
 ghost use Rattle.resurrector.specs.Revived.{plan_of};
 
 /// Each record of the new kernel decodes, to one that can be spelled, whatever the words of the dead one are.
-#[tactic(auto, using(crate::proofs::Whole::all_decode))]
 pub const fn revived_records_decode()
     ensures complete { (dead : DeadState) (words own : WordMap) (map : MemoryMap) → IsReadAs map (plan_of dead words) own
         → AreComplete (records_of map own) }

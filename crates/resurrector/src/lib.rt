@@ -2,6 +2,7 @@
 #![tactic(auto)]
 
 mod fates;
+mod laws;
 mod left;
 mod procedures;
 mod resurrecting;
@@ -9,5 +10,6 @@ mod revived;
 mod survivors;
 
 pub use fates::Fate;
+pub use laws::revived_records_decode;
 pub use procedures::revive;
 pub use resurrecting::{Revival, resurrect_into};
