@@ -8,7 +8,7 @@ mod resurrecting;
 mod revived;
 mod survivors;
 
-pub use record_layouts::Fate;
 pub use laws::revived_records_decode;
 pub use procedures::revive;
+pub use record_layouts::Fate;
 pub use resurrecting::{Revival, resurrect_into};
