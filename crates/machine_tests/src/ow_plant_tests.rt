@@ -331,11 +331,7 @@ struct Remains {
 
 fn read_all<M: DeadMemory>(memory: &M) -> Remains {
     Remains {
-        words: (
-            memory.load(0, 0),
-            memory.load(CODE, 5),
-            memory.load(OWN, 5),
-        ),
+        words: (memory.load(0, 0), memory.load(CODE, 5), memory.load(OWN, 5)),
         counts: (memory.count(0), memory.count(1)),
         handover: memory.handover(),
         area: memory.area(),
