@@ -10,6 +10,6 @@ mod revived;
 mod survivors;
 
 pub use fates::Fate;
-pub use laws::revived_records_decode;
+pub use laws::{revived_processes_are_outside, revived_records_decode};
 pub use procedures::revive;
 pub use resurrecting::{Revival, resurrect_into};
