@@ -8,7 +8,7 @@ mod resurrecting;
 mod revived;
 mod survivors;
 
-pub use laws::revived_records_decode;
+pub use laws::{revived_processes_are_outside, revived_records_decode};
 pub use procedures::revive;
 pub use record_layouts::Fate;
 pub use resurrecting::{Revival, resurrect_into};
