@@ -4,3 +4,11 @@ pub mod Reviving
 pub mod Descriptors
 pub mod Outcomes
 pub mod Pids
+pub mod Paged
+pub mod RebuiltPages
+pub mod Unhurt
+pub mod UnhurtRecords
+pub mod Undamaged
+pub mod Survivals
+pub mod RebuiltRecords
+pub mod RebuiltProcesses

@@ -1,0 +1,1 @@
+use Rattle.resurrector.proofs.RebuiltProcesses.{processes_same}
