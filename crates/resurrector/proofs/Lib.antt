@@ -12,3 +12,4 @@ pub mod Undamaged
 pub mod Survivals
 pub mod RebuiltRecords
 pub mod RebuiltProcesses
+pub mod RebuiltUnix

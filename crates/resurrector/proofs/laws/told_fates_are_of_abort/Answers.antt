@@ -1,1 +1,1 @@
-use Rattle.resurrector.proofs.RebuiltProcesses.{processes_same}
+use Rattle.resurrector.proofs.RebuiltUnix.{none_at_all}
