@@ -12,4 +12,5 @@ pub mod Undamaged
 pub mod Survivals
 pub mod RebuiltRecords
 pub mod RebuiltProcesses
+pub mod RebuiltDescriptions
 pub mod RebuiltUnix

@@ -28,6 +28,7 @@ use Rattle.resurrector.specs.Rebuilt.{IsRevived, tapes_put}
 use Rattle.resurrector.specs.Revived.{description_or_none, ended_or_free, process_by, revived_description, revived_process}
 use Rattle.resurrector.specs.Survivors.{goes_on, has_pid, names, names_by, survivor_in}
 use Rattle.resurrector.specs.Survivors.{is_named as is_named_of}
+use Rattle.resurrector.proofs.RebuiltDescriptions.{description_same}
 use Rattle.resurrector.proofs.RebuiltProcesses.{all_survive, goes_on_as, process_is, processes_same, survives, none_survives, v, was_nothing, was_there}
 use Rattle.resurrector.proofs.RebuiltRecords.{exit_same, last_pid_same, next_pid_same, process_there, terminal_put}
 use Rattle.resurrector.proofs.Survivals.{after, after_descs, after_pid, after_state, no_survivor, pid_is, survivor_there}
@@ -236,3 +237,29 @@ module _ (i : Image) (most broken : ℕ) (sound : IsSoundAtPanic i most broken) 
           none = λ slot from to. ended_test pid slot to ∙ rw (none_at_all test 0 16 none slot from to) refl;
         }) in
         rw nothing refl
+
+  -- the state as a whole
+  exits_there : (pid : ℕ) → status_by (next.exits pid) ≡ exit_after (v i most broken sound h steps traps) (no_wounds (v i most broken sound h steps traps)) pid ((v i most broken sound h steps traps).processes pid)
+  unfolding unix_left unix_of
+  exits_there pid =
+      ap status_by (exit_same i most broken sound h counts next next_words is pid)
+      ∙ sym (exits_stay (v i most broken sound h steps traps) pid ((v i most broken sound h steps traps).processes pid))
+
+  pub unix_same : unix_of next next_words (tapes_put r i.tapes) InKernel steps traps
+      ≡ abort (unix_left i h steps traps) (no_wounds (unix_left i h steps traps))
+  unfolding unix_of abort unix_left no_wounds processes_of
+  unix_same = λ k. record {
+    processes = λ pid. process_is i most broken sound h steps traps counts next next_words is pid k;
+    ended = λ pid. (ap (λ (processes : ℕ → Option Process). ended_of next processes pid) (λ j q. process_is i most broken sound h steps traps counts next next_words is q j) ∙ child_same pid) k;
+    descriptions = λ number. (ap (λ (processes : ℕ → Option Process). in_use processes (λ n. description_by (next.descs n)) number)
+        (λ j q. process_is i most broken sound h steps traps counts next next_words is q j)
+        ∙ description_same i most broken sound h steps traps counts next next_words is number) k;
+    files = λ number. None;
+    terminals = λ tty. terminal_put i most broken sound h counts next next_words is tty k;
+    exits = λ pid. exits_there pid k;
+    next_pid = next_pid_same i most broken sound h counts next next_words is k;
+    last_pid = last_pid_same i most broken sound h counts next next_words is k;
+    steps = steps;
+    traps = traps;
+    position = AtKernel;
+  }
