@@ -14,3 +14,4 @@ pub mod RebuiltRecords
 pub mod RebuiltProcesses
 pub mod RebuiltDescriptions
 pub mod RebuiltUnix
+pub mod ToldFates

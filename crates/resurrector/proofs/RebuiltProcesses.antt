@@ -78,7 +78,7 @@ module _ (i : Image) (most broken : ℕ) (sound : IsSoundAtPanic i most broken) 
     unfolding process_at
     was_nothing = rw none refl
 
-    none_left : v.processes pid ≡ None
+    pub none_left : v.processes pid ≡ None
     unfolding unix_left unix_of processes_of
     none_left = ap (λ (o : Option Process). with_bank_left h r.head pid o) was_nothing ∙ no_bank h (has_handed_bank (Some h) r.head pid)
 
