@@ -15,3 +15,4 @@ pub mod RebuiltProcesses
 pub mod RebuiltDescriptions
 pub mod RebuiltUnix
 pub mod ToldFates
+pub mod Built
