@@ -15,6 +15,3 @@ pub use ow_plant::{DeadMemory, HandOver};
 pub use processes::Unreadable;
 pub use record_layouts::{DeadProc, RecordId, RecordView, WordSource};
 pub use view::DeadView;
-
-#[cfg(test)]
-mod tests;

@@ -17,7 +17,11 @@ use word_store::WordStore;
 /// Sets the records of a patch in the area that begins at frame `base`, of which no intent is open then.
 ///
 /// An intent that is open before is carried out first. At `Panicked` all records of the patch are set or none.
-pub(crate) fn commit<W: WordStore>(store: &mut W, base: u32, patch: &PatchView<'_>) -> Result<(), Panicked>
+pub(crate) fn commit<W: WordStore>(
+    store: &mut W,
+    base: u32,
+    patch: &PatchView<'_>,
+) -> Result<(), Panicked>
     requires able { W.able store.old ≡ true }
     requires area { HasArea (W.words store.old) base }
     requires readable { is_readable_gate (gate_of (area_at (W.words store.old) base)) ≡ true }

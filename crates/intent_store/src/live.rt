@@ -11,8 +11,8 @@ use crate::frames::{copy_frame, zero_frame};
 use ow_base::{Now, Panicked, WordSource};
 use ow_plant::Plant;
 use record_layouts::{
-    AreaView, CacheRec, DescRec, ExitRec, FileRec, HeadRec, MemoryMap, PatchView, ProcRec, RecordView,
-    RowRec, SigRec, TermRec, Writer,
+    AreaView, CacheRec, DescRec, ExitRec, FileRec, HeadRec, MemoryMap, PatchView, ProcRec,
+    RecordView, RowRec, SigRec, TermRec, Writer,
 };
 use word_store::WordStore;
 

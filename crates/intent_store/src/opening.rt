@@ -25,7 +25,11 @@ pub(crate) struct Spelling {
 
 /// Opens an intent that sets the records of a patch in the area that begins at frame `base`, where none is open: the
 /// payload and the seal are stored first, and the gate opens last. The number behind the payload comes back.
-pub(crate) fn open<W: WordStore>(store: &mut W, base: u32, patch: &PatchView<'_>) -> Result<u32, Panicked>
+pub(crate) fn open<W: WordStore>(
+    store: &mut W,
+    base: u32,
+    patch: &PatchView<'_>,
+) -> Result<u32, Panicked>
     requires able { W.able store.old ≡ true }
     requires area { HasArea (W.words store.old) base }
     requires shut { area_at (W.words store.old) base 16 ≡ 0 }

@@ -1,5 +1,5 @@
 //! What a new kernel begins with.
-ghost use Rattle.std.specs.Prelude.{◌≡◌, ◌^◌, ◌<◌, IfSome};
+ghost use Rattle.std.specs.Prelude.{◌≡◌, ◌^◌, ◌<◌, Some, IfSome};
 
 use ow_base::Rights;
 use record_layouts::{AnyRec, RecordId};
@@ -63,11 +63,13 @@ pub trait Blueprint {
         ensures is { result ≡ (plan self.now).holder frame }
         ensures fits { IfSome result (λ holder. (holder.slot < 16) × (holder.page < 2 ^ 19)) };
 
-    /// A word of a page.
-    fn page_word(&self, slot: u32, page: u32, word: u32) -> u32
+    /// A word of the page that a user frame holds.
+    fn page_word(&self, frame: u32, holder: Holder, word: u32) -> u32
         requires stands { stands self.now }
-        requires slot { slot < 16 }
-        requires page { page < 2 ^ 19 }
+        requires frame { frame < 384 }
+        requires held { (plan self.now).holder frame ≡ Some holder }
+        requires slot { holder.slot < 16 }
+        requires page { holder.page < 2 ^ 19 }
         requires word { word < 1024 }
-        ensures { result ≡ (plan self.now).word_at slot page word };
+        ensures { result ≡ (plan self.now).word_at holder.slot holder.page word };
 }

@@ -1,5 +1,5 @@
 //! The builder: it fills the frames of a new kernel as a blueprint says.
-ghost use Rattle.std.specs.Prelude.{◌≡◌, ◌+◌, ◌*◌, ◌^◌, ◌<◌, ◌≤◌, true, OnOk, OnErr, IfSome};
+ghost use Rattle.std.specs.Prelude.{◌≡◌, ◌+◌, ◌*◌, ◌^◌, ◌<◌, ◌≤◌, true, Some, OnOk, OnErr, IfSome};
 ghost use Rattle.record_layouts.specs.Held.{beside};
 ghost use Rattle.record_layouts.specs.Overlay.{HasArea, area_at};
 ghost use Rattle.kernel_builder.specs.Reading.{IsReadAs};
@@ -212,26 +212,33 @@ fn set_owners<B: Blueprint, S: WordStore>(
 #[tactic(auto, using(crate::proofs::Copying::frame_none, crate::proofs::Copying::frame_more, crate::proofs::Copying::without_set, crate::proofs::Copying::frame_there))]
 fn copy_page<B: Blueprint, S: WordStore>(
     store: &mut S,
-    frame: u32,
+    map: &MemoryMap,
     blueprint: &B,
-    slot: u32,
-    page: u32,
+    frame: u32,
+    holder: Holder,
 ) -> Result<(), Panicked>
     requires able { S.able store.old ≡ true }
-    requires there { HasFrame (S.words store.old) frame }
-    requires slot { slot < 16 }
-    requires page { page < 2 ^ 19 }
+    requires there { HasFrame (S.words store.old) (map.now.pool_base + frame) }
+    requires numbered { map.now.pool_base + frame < 2 ^ 22 }
+    requires frame { frame < 384 }
+    requires held { (B.plan blueprint.now).holder frame ≡ Some holder }
+    requires slot { holder.slot < 16 }
+    requires page { holder.page < 2 ^ 19 }
     requires stands { B.stands blueprint.now }
-    ensures ok { OnOk result (S.words store.new ≡ with_frame (S.words store.old) frame ((B.plan blueprint.now).word_at slot page) 1024) }
-    ensures others { without frame (S.words store.new) ≡ without frame (S.words store.old) }
-    ensures there { HasFrame (S.words store.new) frame }
+    ensures ok { OnOk result (S.words store.new ≡ with_frame (S.words store.old) (map.now.pool_base + frame) ((B.plan blueprint.now).word_at holder.slot holder.page) 1024) }
+    ensures others { without (map.now.pool_base + frame) (S.words store.new) ≡ without (map.now.pool_base + frame) (S.words store.old) }
+    ensures there { HasFrame (S.words store.new) (map.now.pool_base + frame) }
     ensures rest { S.rest store.new ≡ S.rest store.old }
     ensures stays { OnOk result (S.able store.new ≡ true) }
     ensures allowed { OnErr result (S.may_refuse (S.rest store.old) ≡ true) }
     ensures place { S.place store.new ≡ S.place store.old }
 {
     for word in 0..FRAME_WORDS {
-        store.store(frame, word, blueprint.page_word(slot, page, word))?;
+        store.store(
+            map.pool_base + frame,
+            word,
+            blueprint.page_word(frame, holder, word),
+        )?;
     }
     Ok(())
 }
@@ -258,13 +265,7 @@ fn copy_pages<B: Blueprint, S: WordStore>(
 {
     for frame in 0..map.user_frames {
         if let Some(holder) = blueprint.holder(frame) {
-            copy_page(
-                store,
-                map.pool_base + frame,
-                blueprint,
-                holder.slot,
-                holder.page,
-            )?;
+            copy_page(store, map, blueprint, frame, holder)?;
         }
     }
     Ok(())

@@ -37,3 +37,4 @@ pub mod TurnUnix
 pub mod UserServed
 pub mod KernelServed
 pub mod SoundImages
+pub mod Entries

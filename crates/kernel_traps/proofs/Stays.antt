@@ -1,18 +1,15 @@
 -- The state that records stand for depends on no words but those beside the area; and what is known of the records that
 -- a plant holds.
-use Rattle.std.proofs.Common.{◌≡◌, ◌∙◌, ◌==◌, ◌+◌, ◌-◌, ◌*◌, ◌/◌, ◌%◌, ◌≤◌, ℕ, nat_lt, not, ◌&&◌, if◌then◌else◌, List, length, take, drop, Option, Some, None, inl, inr, refl, sym, ap, arith}
+use Rattle.std.proofs.Common.{◌≡◌, ◌∙◌, ◌+◌, ◌≤◌, ℕ, nat_lt, if◌then◌else◌, List, length, take, drop, Some, None, inl, inr, refl, sym, ap, arith}
 use Rattle.std.proofs.lemmas.Bool.{cases_Bool}
 use Rattle.std.proofs.lemmas.Bool.Decides.{nat_tests}
 use Rattle.std.proofs.lemmas.Grind.{common_steps}
-use Rattle.ow_base.specs.Sv32.{WordMap, byte_of, word_or_zero}
-use Rattle.ow_base.specs.declared.machine.Rights.{Rights}
+use Rattle.ow_base.specs.Sv32.{WordMap}
 use Rattle.phys_memory.specs.Memory.{words_of}
 use Rattle.record_layouts.specs.declared.memory_map.MemoryMap.{MemoryMap}
 use Rattle.record_layouts.specs.declared.proc.ProcRec.{ProcRec}
-use Rattle.record_layouts.specs.Unix.State.{Process, in_use}
 use Rattle.record_layouts.specs.Held.{Records, beside}
-use Rattle.record_layouts.specs.Pages.{byte_on, entry_for, frame_by, frame_of, leaf_frame, owned, pages_of, region_of}
-use Rattle.record_layouts.specs.Decode.{Context, InKernel, InUser, description_by, ended_of, process_at, process_by, process_in, process_of, processes_of, slot_by, unix_of}
+use Rattle.record_layouts.specs.Decode.{Context, unix_of}
 use Rattle.record_layouts.specs.Proc.{proc_in}
 use Rattle.record_layouts.specs.Reading.{records_in, records_of}
 use Rattle.record_layouts.proofs.Reading.{proc_is}

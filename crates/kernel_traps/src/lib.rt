@@ -14,6 +14,6 @@ mod user;
 
 pub use booting::{boot, worlds_can_boot};
 pub use ended::all_have_ended;
-pub use laws::sound_plants_have_sound_images;
+pub use laws::{entries_have_the_image_of_the_plant, sound_plants_have_sound_images};
 pub use serving::{serve_trap, shutdown};
 pub use turns::Turn;

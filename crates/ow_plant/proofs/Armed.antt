@@ -1,5 +1,5 @@
 -- A plant that is armed stays armed, with memory of its size.
-use Rattle.std.proofs.Common.{◌≡◌, ℕ, ◌+◌, ◌*◌, ◌^◌, ◌<◌, ◌≤◌, ◌==◌, if◌then◌else◌, Bool, true, false, List, ◌++◌, drop, length, Result, Ok, Err, MatchBool, refl, sym, subst, ap, ◌∙◌, arith, length-append, length-drop}
+use Rattle.std.proofs.Common.{◌≡◌, ℕ, ◌+◌, ◌^◌, ◌<◌, ◌≤◌, ◌==◌, if◌then◌else◌, Bool, true, false, List, drop, length, Result, Ok, Err, MatchBool, refl, sym, subst, ap, ◌∙◌, arith, length-append, length-drop}
 use Rattle.ow_base.specs.Sv32.{written_at, sv32_space, translated}
 use Rattle.ow_base.specs.UserStep.{Stepped, Next, Call, Faulted, user_step}
 use Rattle.ow_base.specs.declared.machine.Access.TheVariants.{Store}

@@ -19,7 +19,9 @@ mod user_memory;
 pub use dead_half::Dead;
 pub use dead_memory::DeadMemory;
 pub use displays::Display;
-pub use laws::{dead_words_stay, own_stores_are_stores, panics_hand_over, what_is_lent_is_given_back};
+pub use laws::{
+    dead_words_stay, own_stores_are_stores, panics_hand_over, what_is_lent_is_given_back,
+};
 pub use lent::Lent;
 pub use machine::Plant;
 pub use ow_base::{

@@ -5,7 +5,7 @@ use Rattle.record_layouts.specs.declared.patch.AnyRec.TheVariants as any
 use Rattle.record_layouts.specs.declared.patch.PatchItem.{PatchItem}
 use Rattle.record_layouts.specs.declared.places.RecordId.{RecordId}
 use Rattle.record_layouts.specs.declared.places.RecordId.TheVariants as id
-use Rattle.record_layouts.specs.Overlay.{WordRange, may_change}
+use Rattle.record_layouts.specs.Overlay.{may_change}
 use Rattle.record_layouts.specs.Patch.{IsOfKind, IsPatchItem}
 use Rattle.record_layouts.specs.Places.{first_word, length_of}
 use Rattle.record_layouts.specs.Seam.{IsSpelled, Spells}

@@ -28,7 +28,7 @@ pub state_read : (map : MemoryMap) (words : WordMap) (slot state : ℕ) → slot
 unfolding records_of records_in
 state_read map words slot state within is process read =
     let here : record_in map (is_readable_gate (gate_of (area_at words map.area_base))) (overlay (area_at words map.area_base)) (Proc slot)
-        ≡ proc_in (words_from (overlay (area_at words map.area_base)) (first_word (Proc slot)) 128) = grind (arith, nat_tests) in
+    ≡ proc_in (words_from (overlay (area_at words map.area_base)) (first_word (Proc slot)) 128) = grind (arith, nat_tests) in
     state_in (overlay (area_at words map.area_base)) (first_word (Proc slot)) process (sym here ∙ read) ∙ sym is
 
 pub live_stays : (found : Option ProcRec) (state : ℕ) → HasState found state → (state ≡ 1) ⊎ ((state ≡ 1 → ⊥) × (state ≡ 2))

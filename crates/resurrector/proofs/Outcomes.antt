@@ -46,3 +46,11 @@ added_each expected now count value within each is slot less = elim (cases_eq sl
 pub no_owner : (map : MemoryMap) (words : WordMap) (frame : ℕ) → (records_of map words).map.user_frames ≤ frame → (records_of map words).owners frame ≡ 0
 unfolding records_of records_in
 no_owner map words frame past = rw (le-ltb frame map.user_frames past) refl
+
+pub frames_few : (map : MemoryMap) (words : WordMap) → map.user_frames ≤ 384 → (records_of map words).map.user_frames ≤ 384
+unfolding records_of records_in
+frames_few map words few = few
+
+pub same_frames : (map : MemoryMap) (words : WordMap) → (records_of map words).map.user_frames ≡ map.user_frames
+unfolding records_of records_in
+same_frames map words = refl

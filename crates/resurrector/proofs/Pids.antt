@@ -1,5 +1,5 @@
 -- The pid behind the greatest that was given away.
-use Rattle.std.proofs.Common.{◌≡◌, ℕ, suc, ◌+◌, true, false, refl, ◌∙◌, ap, arith}
+use Rattle.std.proofs.Common.{◌≡◌, ℕ, suc, ◌+◌, true, false, refl, arith}
 use Rattle.record_layouts.specs.Held.{Records}
 use Rattle.record_layouts.specs.Sound.{is_used}
 use Rattle.resurrector.specs.Revived.{next_behind}

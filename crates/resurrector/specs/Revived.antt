@@ -1,5 +1,5 @@
 -- What a new kernel begins with after a panic.
-use Rattle.std.specs.Prelude.{ℕ, zero, suc, ◌+◌, ◌-◌, ◌*◌, ◌/◌, ◌%◌, ◌^◌, Bool, false, nat_lt, ◌==◌, ◌&&◌, if◌then◌else◌, List, slice_index, Option, Some, None, is_some}
+use Rattle.std.specs.Prelude.{ℕ, zero, suc, ◌+◌, ◌-◌, ◌/◌, ◌%◌, ◌^◌, Bool, false, nat_lt, ◌==◌, ◌&&◌, if◌then◌else◌, List, [], ◌∷◌, take, slice_index, Option, Some, None, is_some}
 use Rattle.ow_base.specs.Sv32.{WordMap, word_or_zero}
 use Rattle.ow_base.specs.declared.machine.Rights.{Rights}
 use Rattle.record_layouts.specs.declared.head.HeadRec.{HeadRec}
@@ -17,12 +17,14 @@ use Rattle.record_layouts.specs.Held.{Records}
 use Rattle.record_layouts.specs.Left.{HandedOver}
 use Rattle.record_layouts.specs.Pages.{frame_of, region_of}
 use Rattle.record_layouts.specs.Sound.{is_used}
+use Rattle.ow_plant.specs.Dead.{DeadState}
+use Rattle.dead_reader.specs.Left.{handed_of, records_left}
 use Rattle.dead_reader.specs.Terminals.{terminal_decodes}
 use Rattle.kernel_builder.specs.declared.blueprint.Placed.{Placed}
 use Rattle.kernel_builder.specs.declared.blueprint.Holder.{Holder}
 use Rattle.kernel_builder.specs.Blank.{blank_row_record, empty_entry, free_process, no_signals, unused_description, unused_file}
 use Rattle.kernel_builder.specs.Plan.{Plan}
-use Rattle.resurrector.specs.Survivors.{fate_of, goes_on, is_named, survivor_in}
+use Rattle.resurrector.specs.Survivors.{fate_of, fates_to, goes_on, is_named, survivor_in}
 use Rattle.record_layouts.specs.declared.fates.Fate.{Fate}
 use Rattle.record_layouts.specs.declared.fates.Fate.TheVariants as fate
 
@@ -170,3 +172,11 @@ revived_plan r handed counts words = record {
   holder = revived_holder r handed;
   word_at = λ slot page word. word_by r words word (revived_page r handed slot page);
 }
+
+-- that of what a kernel has left, and the fates of its processes
+abbrev pub plan_of : DeadState → WordMap → Plan
+plan_of dead words =
+    revived_plan (records_left dead words) (handed_of dead.handover) (dead.counts 0 ∷ dead.counts 1 ∷ []) words
+
+abbrev pub fates_left : DeadState → WordMap → List (ℕ × Fate)
+fates_left dead words = take 16 (fates_to (records_left dead words) (handed_of dead.handover) 256)

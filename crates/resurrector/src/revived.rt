@@ -1,9 +1,10 @@
 //! What a new kernel begins with after a panic.
-ghost use Rattle.std.specs.Prelude.{◌≡◌, ◌^◌, ◌<◌, ◌≤◌, IfSome};
+ghost use Rattle.std.specs.Prelude.{◌≡◌, ◌+◌, ◌^◌, ◌<◌, IfSome};
+ghost use Rattle.ow_base.specs.Sv32.{word_or_zero};
 ghost use Rattle.record_layouts.specs.Patch.{FitsAny, IsOfKind};
 ghost use Rattle.record_layouts.specs.Places.{IsRecordId};
 ghost use Rattle.dead_reader.specs.Left.{handed_of};
-ghost use Rattle.resurrector.specs.Revived.{holder_if, is_placed_in, revived_holder, revived_page, revived_record, word_by};
+ghost use Rattle.resurrector.specs.Revived.{holder_if, is_placed_in, revived_holder, revived_page, revived_record};
 ghost use Rattle.resurrector.specs.Survivors.{AreOutcomes};
 
 use crate::left::Left;
@@ -91,18 +92,14 @@ impl<V: RecordView> Left<'_, V> {
         self.holder_if(frame, owner / SLOT_UNIT - 1, owner % SLOT_UNIT)
     }
 
-    // A word of the user frame in which a page is.
-    fn word_by(&self, word: u32, placed: Option<Placed>) -> u32
+    // A word of a user frame.
+    fn word_in(&self, frame: u32, word: u32) -> u32
+        requires frame { frame < 384 }
         requires word { word < 1024 }
-        requires there { IfSome placed (λ p. p.frame < (V.records self.now.view.now).map.user_frames) }
-        requires few { (V.records self.now.view.now).map.user_frames ≤ 384 }
-        ensures { result ≡ word_by (V.records self.now.view.now) (V.words self.now.view.now) word placed }
+        ensures { result ≡ word_or_zero (V.words self.now.view.now ((V.records self.now.view.now).map.pool_base + frame) word) }
     {
-        match placed {
-            Some(placed) => self
-                .view
-                .load(self.view.pool_base() + placed.frame, word)
-                .unwrap_or(0),
+        match self.view.load(self.view.pool_base() + frame, word) {
+            Some(value) => value,
             None => 0,
         }
     }
@@ -135,8 +132,8 @@ impl<V: RecordView> Blueprint for Left<'_, V> {
         self.holder_of(frame)
     }
 
-    fn page_word(&self, slot: u32, page: u32, word: u32) -> u32 {
-        self.word_by(word, self.page_of(slot, page))
+    fn page_word(&self, frame: u32, _holder: Holder, word: u32) -> u32 {
+        self.word_in(frame, word)
     }
 }
 

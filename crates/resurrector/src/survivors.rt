@@ -149,6 +149,7 @@ fn outcome_of<M: DeadMemory>(view: &DeadView<'_, M>, slot: u32) -> Outcome
 
 /// What became of the processes in all slots.
 pub(crate) fn outcomes<M: DeadMemory>(view: &DeadView<'_, M>) -> [Outcome; 16]
+    requires { (M.dead view.now.memory.now).user_frames ≤ 384 }
     ensures { AreOutcomes (records_left (M.dead view.now.memory.now) (M.words view.now.memory.now)) (handed_of (M.dead view.now.memory.now).handover) result }
 {
     let nothing = Outcome {

@@ -12,6 +12,3 @@ pub use reader::{
     WorldFault, each_text_is_answered, one_refusal, one_world, read_world, worlds_are_read,
 };
 pub use why::Why;
-
-#[cfg(test)]
-mod tests;

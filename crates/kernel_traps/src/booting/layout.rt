@@ -175,11 +175,11 @@ impl Blueprint for Booted<'_> {
         find_holder(self.load, frame)
     }
 
-    fn page_word(&self, slot: u32, page: u32, word: u32) -> u32 {
-        let Some(program) = program_at(self.load, slot) else {
+    fn page_word(&self, _frame: u32, holder: Holder, word: u32) -> u32 {
+        let Some(program) = program_at(self.load, holder.slot) else {
             return 0;
         };
-        match number_of(program, page) {
+        match number_of(program, holder.page) {
             Some(number) => word_of(program, number, word),
             None => 0,
         }

@@ -1,7 +1,7 @@
 use Rattle.std.proofs.Common.{◌≡◌, ◌∙◌, ℕ, List, [], ◌∷◌, ap, sym, subst, inl, inr}
 use Rattle.record_layouts.specs.declared.patch.PatchItem.{PatchItem}
 use Rattle.record_layouts.specs.Held.{Held, patched, with_items}
-use Rattle.ow_plant.specs.State.{PlantState, store_refused, with_put}
+use Rattle.ow_plant.specs.State.{PlantState}
 use Rattle.tty_screen.specs.Drawing.{DrawsByte, IsCounted, StaysBeside}
 use Rattle.tty_screen.specs.Shown.{TerminalDecodes}
 use Rattle.intent_store.specs.Live.{held_of}

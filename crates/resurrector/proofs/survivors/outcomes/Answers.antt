@@ -1,10 +1,10 @@
-use Rattle.std.proofs.Common.{◌≡◌, ℕ, ◌<◌, IfSome, subst, arith}
+use Rattle.std.proofs.Common.{ℕ, IfSome, subst, arith}
 use Rattle.dead_reader.specs.Left.{handed_of, records_left}
 use Rattle.record_layouts.specs.Halves.{half_map}
 use Rattle.resurrector.specs.Procedures.{HasFewBits}
 use Rattle.resurrector.specs.Survivors.{IsSurvivor, fate_in, outcome_in, survivor_in}
 use Rattle.resurrector.specs.declared.survivors.Outcome.{Outcome}
-use Rattle.resurrector.proofs.Outcomes.{added_all, added_each, no_owner, stays_long}
+use Rattle.resurrector.proofs.Outcomes.{added_all, added_each, frames_few, no_owner, stays_long}
 use Rattle.resurrector.proofs.survivors.outcomes.Goals as goal
 
 pub loop-slot-preserved : goal.loop-slot-preserved
@@ -32,5 +32,6 @@ returns g c =
       each = λ slot less. c.loop-slot.invariant.each slot (omega (arith, less, end));
       fits = λ slot less. c.loop-slot.invariant.fits slot (omega (arith, less, end));
       few = λ slot less. c.loop-slot.invariant.few slot (omega (arith, less, end));
+      few_frames = frames_few (half_map dead.area dead.user_frames dead.sectors) (g.M.WordSource.words c.args.view.now.memory.now) c.requires;
       owned = no_owner (half_map dead.area dead.user_frames dead.sectors) (g.M.WordSource.words c.args.view.now.memory.now);
     }

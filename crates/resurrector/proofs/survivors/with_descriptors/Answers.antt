@@ -1,5 +1,3 @@
-use Rattle.std.proofs.Common.{sym, subst}
-use Rattle.resurrector.specs.Survivors.{IsSurvivor}
 use Rattle.resurrector.proofs.Descriptors.{closed_fits, descriptors_few}
 use Rattle.resurrector.proofs.survivors.with_descriptors.Goals as goal
 

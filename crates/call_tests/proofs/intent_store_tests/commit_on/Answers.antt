@@ -1,4 +1,0 @@
-use Rattle.call_tests.proofs.intent_store_tests.commit_on.Goals as goal
-
-pub commit-requires-clause-patch : goal.commit-requires-clause-patch
-commit-requires-clause-patch c = c.requires.patch _

@@ -1,0 +1,2 @@
+-- The area that takes over.
+pub mod Areas

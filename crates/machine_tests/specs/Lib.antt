@@ -1,0 +1,2 @@
+-- A space of 64 bytes on which single steps are tried.
+pub mod SmallSpace
