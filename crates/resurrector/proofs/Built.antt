@@ -1,5 +1,5 @@
 -- What is read of frames that were built after the plan of a revival.
-use Rattle.std.proofs.Common.{◌≡◌, ℕ, ◌<◌, ◌≤◌, false, List, Option, Some, None, All, refl, sym, ap, subst, ◌∙◌, arith}
+use Rattle.std.proofs.Common.{◌≡◌, ℕ, ◌<◌, ◌≤◌, false, List, Option, None, refl, arith}
 use Rattle.std.proofs.lemmas.List.Elements.{All-nil}
 use Rattle.ow_base.specs.Sv32.{WordMap}
 use Rattle.kernel_builder.specs.Blank.{empty_entry, unused_file}

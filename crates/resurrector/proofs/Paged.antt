@@ -1,5 +1,5 @@
 -- Records of processes with the same regions have the same pages.
-use Rattle.std.proofs.Common.{◌≡◌, ℕ, zero, suc, ◌+◌, ◌/◌, ◌%◌, List, Option, refl, ap, ◌∙◌, arith}
+use Rattle.std.proofs.Common.{◌≡◌, ℕ, zero, suc, ◌+◌, ◌/◌, ◌%◌, Option, refl, ap, ◌∙◌, arith}
 use Rattle.ow_base.specs.Sv32.{WordMap}
 use Rattle.ow_base.specs.declared.machine.Rights.{Rights}
 use Rattle.record_layouts.specs.declared.proc.ProcRec.{ProcRec}

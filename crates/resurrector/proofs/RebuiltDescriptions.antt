@@ -1,27 +1,24 @@
 -- The descriptions of a kernel that was built after a panic which damaged nothing are those that Abort leaves in use.
-use Rattle.std.proofs.Common.{◌≡◌, ℕ, zero, suc, ◌+◌, ◌-◌, ◌<◌, ◌≤◌, ◌==◌, ◌&&◌, ◌||◌, Bool, true, false, nat_lt, if◌then◌else◌, List, [], ◌∷◌, length, map, slice_index, Option, Some, None, is_some, inl, inr, refl, sym, ap, subst, ◌∙◌, arith}
-use Rattle.std.proofs.lemmas.Bool.{cases_Bool, cases_lt, le-ltb, or_parts}
+use Rattle.std.proofs.Common.{◌≡◌, ℕ, zero, suc, ◌+◌, ◌-◌, ◌<◌, ◌==◌, Bool, true, false, if◌then◌else◌, List, [], ◌∷◌, length, map, slice_index, Option, Some, None, inl, inr, refl, sym, ap, ◌∙◌, arith}
+use Rattle.std.proofs.lemmas.Bool.{cases_Bool, cases_lt, le-ltb}
 use Rattle.std.proofs.lemmas.Bool.Decides.{nat_tests}
 use Rattle.ow_base.specs.Images.{Image}
 use Rattle.ow_base.specs.Sv32.{WordMap}
-use Rattle.record_layouts.specs.declared.desc.DescRec.{DescRec}
 use Rattle.record_layouts.specs.declared.places.RecordId.TheVariants as id
-use Rattle.record_layouts.specs.declared.proc.ProcRec.{ProcRec}
 use Rattle.record_layouts.specs.Decode.{description_by, descriptor_of, process_at, process_of, slot_by}
 use Rattle.record_layouts.specs.Held.{Records}
 use Rattle.record_layouts.specs.Images.{records_of_image}
 use Rattle.record_layouts.specs.Left.{HandedOver, call_found, dead_proc, left_rec}
 use Rattle.record_layouts.specs.Reading.{records_in, records_of}
 use Rattle.record_layouts.specs.SoundImages.{IsSoundAtPanic}
-use Rattle.record_layouts.specs.Unix.Choice.{is_any}
 use Rattle.record_layouts.specs.Unix.State.{Description, Process, in_use, is_among, is_named, is_named_by, is_this, most_pids}
 use Rattle.record_layouts.proofs.Least.{any_found}
 use Rattle.resurrector.specs.Rebuilt.{IsRevived}
-use Rattle.resurrector.specs.Revived.{description_or_none, revived_description}
+use Rattle.resurrector.specs.Revived.{revived_description}
 use Rattle.resurrector.specs.Survivors.{names, names_by, survivor_in}
 use Rattle.resurrector.specs.Survivors.{is_named as is_named_of}
 use Rattle.resurrector.proofs.RebuiltProcesses.{goes_on_as, left, none_survives, survives, was_nothing, was_there}
-use Rattle.resurrector.proofs.Survivals.{after, after_descs, survivor_there}
+use Rattle.resurrector.proofs.Survivals.{after_descs, survivor_there}
 use Rattle.resurrector.proofs.Undamaged.{eight, held, is_there, process, same_descs, slot_low}
 use Rattle.resurrector.proofs.Unhurt.{carried_on}
 

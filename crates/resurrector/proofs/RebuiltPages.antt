@@ -1,23 +1,22 @@
 -- The pages of a process that goes on: they are where the plan places them, and have the bytes that they had.
-use Rattle.std.proofs.Common.{◌≡◌, ℕ, zero, suc, ◌+◌, ◌-◌, ◌*◌, ◌/◌, ◌%◌, ◌^◌, ◌<◌, ◌≤◌, Bool, true, false, nat_lt, ◌==◌, ◌&&◌, List, Option, Some, None, is_some, option_map, refl, sym, ap, subst, ◌∙◌, inl, inr, arith}
-use Rattle.std.proofs.lemmas.Bool.{and_parts, cases_Bool, cases_lt, lt-ltb, le-ltb}
+use Rattle.std.proofs.Common.{◌≡◌, ℕ, zero, suc, ◌+◌, ◌-◌, ◌/◌, ◌%◌, ◌^◌, ◌<◌, ◌≤◌, Bool, true, false, nat_lt, ◌==◌, ◌&&◌, List, Option, Some, None, is_some, option_map, refl, sym, ap, subst, ◌∙◌, inl, inr, arith}
+use Rattle.std.proofs.lemmas.Bool.{and_parts, cases_lt, lt-ltb, le-ltb}
 use Rattle.std.proofs.lemmas.Bool.Decides.{nat_tests}
-use Rattle.ow_base.specs.Entries.{leaf_flags, leaf_word, pointer_word}
+use Rattle.ow_base.specs.Entries.{leaf_flags, leaf_word}
 use Rattle.ow_base.specs.Sv32.{WordMap, byte_of, word_or_zero}
 use Rattle.ow_base.specs.declared.machine.Rights.{Rights}
 use Rattle.ow_base.specs.declared.machine.Rights.TheVariants.{Code, Values}
 use Rattle.record_layouts.specs.declared.proc.ProcRec.{ProcRec}
 use Rattle.record_layouts.specs.Held.{Records}
 use Rattle.record_layouts.specs.Left.{HandedOver}
-use Rattle.record_layouts.specs.Pages.{byte_on, claim_of, entry_for, frame_by, frame_of, have_frames, heap_pages, high_place, is_linked, is_live, is_mapped, leaf_frame, low_place, owned, pages_of, region_of, table_frame}
+use Rattle.record_layouts.specs.Pages.{byte_on, claim_of, entry_for, frame_by, frame_of, have_frames, heap_pages, high_place, is_linked, is_live, is_mapped, leaf_frame, low_place, owned, pages_of, region_of}
 use Rattle.record_layouts.specs.Proc.{FitsProc}
 use Rattle.frame_table.proofs.Counting.{in_or_out, low_end, region_none}
 use Rattle.frame_table.proofs.Found.{frame_found}
 use Rattle.kernel_builder.specs.declared.blueprint.Placed.{Placed}
-use Rattle.kernel_builder.specs.declared.blueprint.Holder.{Holder}
-use Rattle.kernel_builder.specs.Plan.{claim_by, entry_word, page_entry, root_entry}
+use Rattle.kernel_builder.specs.Plan.{claim_by, entry_word, page_entry}
 use Rattle.resurrector.specs.Rebuilt.{IsRevived}
-use Rattle.resurrector.specs.Revived.{holder_if, is_placed_in, placed_by, revived_holder, revived_page, revived_plan, word_by}
+use Rattle.resurrector.specs.Revived.{placed_by, revived_holder, revived_page, word_by}
 use Rattle.resurrector.specs.Survivors.{survivor_in}
 
 -- the frame of a leaf; 0 is none

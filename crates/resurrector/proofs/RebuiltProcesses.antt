@@ -1,21 +1,19 @@
 -- The processes that are read of a kernel that was built after a panic which damaged nothing are those that Abort leaves.
-use Rattle.std.proofs.Common.{◌≡◌, ℕ, ◌+◌, ◌<◌, ◌≤◌, ◌==◌, ◌&&◌, Bool, true, false, if◌then◌else◌, List, map, Option, Some, None, is_some, inl, inr, refl, sym, ap, subst, ◌∙◌, arith}
-use Rattle.std.proofs.lemmas.Bool.{cases_Bool}
+use Rattle.std.proofs.Common.{◌≡◌, ℕ, ◌==◌, Bool, true, false, if◌then◌else◌, List, Option, Some, None, is_some, refl, sym, ap, ◌∙◌, arith}
 use Rattle.std.proofs.lemmas.Bool.Decides.{nat_tests}
 use Rattle.ow_base.specs.Images.{Image}
 use Rattle.ow_base.specs.Sv32.{WordMap}
 use Rattle.record_layouts.specs.declared.proc.ProcRec.{ProcRec}
-use Rattle.record_layouts.specs.declared.sig.SigRec.{SigRec}
-use Rattle.record_layouts.specs.Decode.{InKernel, decodes, descriptor_of, pid_in, process_at, process_in, process_of, processes_of, slot_by, unix_of, with_bank}
+use Rattle.record_layouts.specs.Decode.{InKernel, decodes, process_at, process_of, processes_of, slot_by, unix_of, with_bank}
 use Rattle.record_layouts.specs.Held.{Records}
 use Rattle.record_layouts.specs.Images.{records_of_image}
 use Rattle.record_layouts.specs.Left.{HandedOver, call_found, dead_proc, has_handed_bank, left_rec}
 use Rattle.record_layouts.specs.LeftImages.{unix_left, with_bank_left}
-use Rattle.record_layouts.specs.Pages.{is_live, is_mapped, pages_of}
+use Rattle.record_layouts.specs.Pages.{is_mapped, pages_of}
 use Rattle.record_layouts.specs.SoundImages.{IsSoundAtPanic}
-use Rattle.record_layouts.specs.Unix.Abort.{abort, call_at, survivor}
+use Rattle.record_layouts.specs.Unix.Abort.{call_at, survivor}
 use Rattle.record_layouts.specs.Unix.State.{Process, Unix}
-use Rattle.record_layouts.specs.Unix.Wounds.{Wounds, no_wounds}
+use Rattle.record_layouts.specs.Unix.Wounds.{no_wounds}
 use Rattle.record_layouts.proofs.LeftImages.{call_left, process_left}
 use Rattle.resurrector.specs.Rebuilt.{IsRevived}
 use Rattle.resurrector.proofs.RebuiltPages.{mapped, pages_same}

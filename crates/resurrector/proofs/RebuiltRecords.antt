@@ -1,7 +1,7 @@
 -- The records of a kernel that was built after a panic which damaged nothing: head, exits, terminals and signals are those that
 -- were left, and each process that was live has its record.
-use Rattle.std.proofs.Common.{◌≡◌, ℕ, zero, suc, ◌+◌, ◌*◌, ◌<◌, ◌≤◌, ◌==◌, ◌&&◌, Bool, true, false, nat_lt, if◌then◌else◌, List, length, ◌++◌, ◌∷◌, [], Option, Some, None, IfSome, is_some, inl, inr, refl, sym, ap, subst, ◌∙◌, arith}
-use Rattle.std.proofs.lemmas.Bool.{and_parts, cases_Bool, cases_lt, lt-ltb, le-ltb}
+use Rattle.std.proofs.Common.{◌≡◌, ℕ, ◌+◌, ◌≤◌, ◌==◌, true, false, if◌then◌else◌, List, length, Option, Some, None, IfSome, is_some, inl, inr, refl, sym, ap, subst, ◌∙◌, arith}
+use Rattle.std.proofs.lemmas.Bool.{cases_Bool, cases_lt, le-ltb}
 use Rattle.std.proofs.lemmas.Bool.Decides.{nat_tests}
 use Rattle.ow_base.specs.Images.{Image}
 use Rattle.ow_base.specs.Sv32.{WordMap}
@@ -14,7 +14,7 @@ use Rattle.record_layouts.specs.declared.term.TermRec.{TermRec}
 use Rattle.record_layouts.specs.Decode.{InKernel, is_number, last_by, next_by, pid_in, slot_by, tape_by, terminal_by}
 use Rattle.record_layouts.specs.Held.{Records}
 use Rattle.record_layouts.specs.Images.{records_of_image}
-use Rattle.record_layouts.specs.Left.{HandedOver, dead_proc}
+use Rattle.record_layouts.specs.Left.{HandedOver}
 use Rattle.record_layouts.specs.LeftImages.{last_left, next_by_left}
 use Rattle.record_layouts.specs.Reading.{records_in, records_of}
 use Rattle.record_layouts.specs.SoundImages.{IsSoundAtPanic}
@@ -24,12 +24,11 @@ use Rattle.record_layouts.specs.Unix.Choice.{least_from}
 use Rattle.record_layouts.specs.Unix.State.{most_pids}
 use Rattle.record_layouts.specs.declared.fates.Fate.{Fate}
 use Rattle.record_layouts.specs.declared.fates.Fate.TheVariants as fate
-use Rattle.resurrector.specs.Procedures.{fate_with, is_lost}
+use Rattle.resurrector.specs.Procedures.{is_lost}
 use Rattle.resurrector.specs.Rebuilt.{IsRevived, tapes_put}
-use Rattle.resurrector.specs.Revived.{exit_by, exit_with, fate_or_lost, head_by, process_by, revived_exit, revived_head, revived_process, revived_signals, revived_terminal, signals_by, signals_or_none, terminal_or_reset}
-use Rattle.resurrector.specs.Survivors.{fate_of, survivor_in}
+use Rattle.resurrector.specs.Revived.{exit_by, exit_with, head_by, process_by, revived_exit, revived_head, revived_process, revived_signals, revived_terminal, signals_by, signals_or_none}
 use Rattle.resurrector.proofs.Undamaged.{exit_out, is_there, signals_there, slot_low, terminals_there}
-use Rattle.resurrector.proofs.Survivals.{after, dead, fate_told, stays, survivor_there}
+use Rattle.resurrector.proofs.Survivals.{after, fate_told, stays, survivor_there}
 
 -- a process that is not lost leaves its exit as it is
 exit_kept : (exit : ExitRec) (told : Fate) → is_lost told ≡ false → exit_with exit told ≡ exit

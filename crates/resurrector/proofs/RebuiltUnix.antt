@@ -1,38 +1,32 @@
 -- A kernel that was built after a panic which damaged nothing stands for the state that Abort leaves.
-use Rattle.std.proofs.Common.{◌≡◌, ℕ, zero, suc, ◌+◌, ◌-◌, ◌<◌, ◌≤◌, ◌==◌, ◌&&◌, ◌||◌, Bool, true, false, nat_lt, if◌then◌else◌, List, [], ◌∷◌, length, map, slice_index, Option, Some, None, is_some, inl, inr, refl, sym, ap, subst, ◌∙◌, arith}
-use Rattle.std.proofs.lemmas.Bool.{and_parts, cases_Bool, cases_lt, le-ltb}
+use Rattle.std.proofs.Common.{◌≡◌, ℕ, zero, suc, ◌+◌, ◌<◌, ◌≤◌, ◌==◌, ◌&&◌, Bool, true, false, List, Option, Some, None, is_some, inl, inr, refl, sym, ap, subst, ◌∙◌, arith}
+use Rattle.std.proofs.lemmas.Bool.{and_parts, cases_Bool}
 use Rattle.std.proofs.lemmas.Bool.Decides.{nat_tests}
 use Rattle.ow_base.specs.Images.{Image}
 use Rattle.ow_base.specs.Sv32.{WordMap}
-use Rattle.kernel_builder.specs.Blank.{free_process, unused_description}
-use Rattle.record_layouts.specs.declared.desc.DescRec.{DescRec}
-use Rattle.record_layouts.specs.declared.exit.ExitRec.{ExitRec}
 use Rattle.record_layouts.specs.declared.places.RecordId.TheVariants as id
 use Rattle.record_layouts.specs.declared.proc.ProcRec.{ProcRec}
-use Rattle.record_layouts.specs.Decode.{InKernel, description_by, descriptor_of, ended_by, ended_in, ended_of, is_ended_as, pid_in, process_at, process_of, processes_of, slot_by, status_by, unix_of}
+use Rattle.record_layouts.specs.Decode.{InKernel, description_by, ended_by, ended_in, ended_of, is_ended_as, pid_in, process_at, processes_of, slot_by, status_by, unix_of}
 use Rattle.record_layouts.specs.Held.{Records}
 use Rattle.record_layouts.specs.Images.{records_of_image}
-use Rattle.record_layouts.specs.Least.{IsLeast, NonePasses}
-use Rattle.record_layouts.specs.Left.{HandedOver, left_rec}
+use Rattle.record_layouts.specs.Left.{HandedOver}
 use Rattle.record_layouts.specs.LeftImages.{unix_left}
 use Rattle.record_layouts.specs.Pages.{has_ended, is_live}
-use Rattle.record_layouts.specs.Reading.{records_in, records_of}
 use Rattle.record_layouts.specs.SoundImages.{IsSoundAtPanic}
-use Rattle.record_layouts.specs.Unix.Abort.{abort, child_after, exit_after, survivor}
-use Rattle.record_layouts.specs.Unix.Choice.{is_any, least_from}
-use Rattle.record_layouts.specs.Unix.State.{AtKernel, EndedChild, Description, Process, Unix, in_use, is_among, is_named, is_named_by, is_this, most_pids}
+use Rattle.record_layouts.specs.Unix.Abort.{abort, child_after, exit_after}
+use Rattle.record_layouts.specs.Unix.Choice.{least_from}
+use Rattle.record_layouts.specs.Unix.State.{AtKernel, Process, in_use}
 use Rattle.record_layouts.specs.Unix.Wounds.{no_wounds}
-use Rattle.record_layouts.proofs.Least.{Passing, any_found, any_none, any_passing, least_found, least_none, least_passes, least_within}
+use Rattle.record_layouts.proofs.Least.{any_found, any_none, least_found, least_none, least_passes, least_within}
 use Rattle.record_layouts.proofs.Surviving.{exits_stay}
 use Rattle.resurrector.specs.Rebuilt.{IsRevived, tapes_put}
-use Rattle.resurrector.specs.Revived.{description_or_none, ended_or_free, process_by, revived_description, revived_process}
-use Rattle.resurrector.specs.Survivors.{goes_on, has_pid, names, names_by, survivor_in}
-use Rattle.resurrector.specs.Survivors.{is_named as is_named_of}
+use Rattle.resurrector.specs.Revived.{ended_or_free, process_by, revived_process}
+use Rattle.resurrector.specs.Survivors.{goes_on, has_pid, survivor_in}
 use Rattle.resurrector.proofs.RebuiltDescriptions.{description_same}
-use Rattle.resurrector.proofs.RebuiltProcesses.{all_survive, goes_on_as, process_is, processes_same, survives, none_survives, v, was_nothing, was_there}
+use Rattle.resurrector.proofs.RebuiltProcesses.{all_survive, goes_on_as, process_is, v, was_nothing, was_there}
 use Rattle.resurrector.proofs.RebuiltRecords.{exit_same, last_pid_same, next_pid_same, process_there, terminal_put}
-use Rattle.resurrector.proofs.Survivals.{after, after_descs, after_pid, after_state, no_survivor, pid_is, survivor_there}
-use Rattle.resurrector.proofs.Undamaged.{eight, held, is_there, lives, own_pid, process, slot_low}
+use Rattle.resurrector.proofs.Survivals.{after, after_pid, after_state, no_survivor, pid_is, survivor_there}
+use Rattle.resurrector.proofs.Undamaged.{held, lives, process, slot_low}
 
 -- none before the least passes
 none_before : (test : ℕ → Bool) (first count n : ℕ) → least_from test first count ≡ Some n → (k : ℕ) → first ≤ k → k < n → test k ≡ false

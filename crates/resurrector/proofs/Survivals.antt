@@ -1,28 +1,25 @@
 -- With which record each process goes on, where the panic damaged nothing, and which slots have none.
-use Rattle.std.proofs.Common.{◌≡◌, ℕ, zero, suc, ◌+◌, ◌<◌, ◌≤◌, ◌==◌, ◌&&◌, Bool, true, false, if◌then◌else◌, List, map, Option, Some, None, is_some, inl, inr, refl, sym, ap, subst, ◌∙◌, arith}
-use Rattle.std.proofs.lemmas.Bool.{and_parts, cases_Bool, lt-ltb}
+use Rattle.std.proofs.Common.{◌≡◌, ℕ, ◌==◌, Bool, true, false, if◌then◌else◌, List, map, Option, Some, None, inl, inr, refl, sym, ap, ◌∙◌, arith}
+use Rattle.std.proofs.lemmas.Bool.{cases_Bool}
 use Rattle.std.proofs.lemmas.Bool.Decides.{nat_tests}
 use Rattle.ow_base.specs.Images.{Image}
-use Rattle.ow_base.specs.declared.machine.Rights.{Rights}
 use Rattle.record_layouts.specs.declared.dead_proc.DeadProc.{DeadProc}
 use Rattle.record_layouts.specs.declared.proc.ProcRec.{ProcRec}
-use Rattle.record_layouts.specs.Decode.{decodes, is_number, pid_in, slot_by}
+use Rattle.record_layouts.specs.Decode.{is_number, pid_in, slot_by}
 use Rattle.record_layouts.specs.Held.{Records}
 use Rattle.record_layouts.specs.Images.{records_of_image}
 use Rattle.record_layouts.specs.Left.{HandedOver, call_found, dead_proc, has_handed_bank, left_rec, with_handed_bank}
-use Rattle.record_layouts.specs.Pages.{frame_by, frame_of, have_frames, heap_pages, entry_for, is_live, is_mapped, region_of}
+use Rattle.record_layouts.specs.Pages.{is_live, is_mapped}
 use Rattle.record_layouts.specs.Proc.{FitsProc}
 use Rattle.record_layouts.specs.SoundImages.{IsSoundAtPanic}
 use Rattle.record_layouts.proofs.Least.{least_passes}
-use Rattle.frame_table.proofs.Counting.{fits_there}
 use Rattle.dead_reader.specs.Losses.{bits_lost}
 use Rattle.dead_reader.specs.Processes.{IsDead}
-use Rattle.record_layouts.specs.declared.fates.Fate.{Fate}
 use Rattle.resurrector.specs.Procedures.{brought_out, fate_with, is_lost, revived}
-use Rattle.resurrector.specs.Survivors.{fate_at, fate_of, kept_open, left_by, left_in, survivor_in, survivor_left, with_descriptors}
+use Rattle.resurrector.specs.Survivors.{fate_of, kept_open, left_in, survivor_in, survivor_left, with_descriptors}
 use Rattle.resurrector.proofs.Paged.{IsPagedAs, paged_mapped}
 use Rattle.resurrector.proofs.Reviving.{dead_fits, dead_live, revived_fits, revived_live}
-use Rattle.resurrector.proofs.Undamaged.{all_open, decoded, fate_there, held, is_there, left_is, lives, lost_by, number_is, own_pid, pages_there, pid_there, process, same_descs, slot_low}
+use Rattle.resurrector.proofs.Undamaged.{all_open, decoded, fate_there, held, left_is, lost_by, number_is, own_pid, pages_there, pid_there, process, slot_low}
 use Rattle.resurrector.proofs.UnhurtRecords.{not_lost}
 
 then_paged : (one other third : ProcRec) → IsPagedAs one other → IsPagedAs other third → IsPagedAs one third

@@ -1,10 +1,10 @@
 -- The fates that a resurrector tells after a panic which damaged nothing are those of Abort.
-use Rattle.std.proofs.Common.{◌≡◌, ℕ, zero, suc, ◌+◌, List, [], ◌∷◌, ◌++◌, Option, Some, None, refl, sym, ap, subst, ◌∙◌, arith}
+use Rattle.std.proofs.Common.{◌≡◌, ℕ, zero, suc, ◌+◌, List, [], ◌∷◌, ◌++◌, Option, Some, None, refl, sym, ap, ◌∙◌, arith}
 use Rattle.ow_base.specs.Images.{Image}
-use Rattle.record_layouts.specs.Decode.{process_of, slot_by, unix_of}
+use Rattle.record_layouts.specs.Decode.{slot_by}
 use Rattle.record_layouts.specs.Images.{records_of_image}
 use Rattle.record_layouts.specs.Held.{Records}
-use Rattle.record_layouts.specs.Left.{HandedOver, call_found, dead_proc, left_rec}
+use Rattle.record_layouts.specs.Left.{HandedOver, call_found, dead_proc}
 use Rattle.record_layouts.specs.SoundImages.{IsSoundAtPanic}
 use Rattle.record_layouts.specs.Unix.Abort.{fate_before, fates, fates_from}
 use Rattle.record_layouts.specs.Unix.Abort.{fate_of as fate_in_unix}

@@ -1,22 +1,21 @@
 -- What a panic left that damaged nothing: each process that was live decodes, and has lost nothing.
-use Rattle.std.proofs.Common.{◌≡◌, ℕ, zero, suc, ◌+◌, ◌-◌, ◌*◌, ◌<◌, ◌≤◌, ◌==◌, ◌&&◌, Bool, true, false, not, nat_lt, if◌then◌else◌, List, [], ◌∷◌, length, map, slice_index, take, drop, Option, Some, None, IfSome, is_some, inl, inr, refl, sym, ap, subst, ◌∙◌, arith}
-use Rattle.std.proofs.lemmas.Bool.{cases_Bool, cases_lt, lt-ltb, le-ltb}
+use Rattle.std.proofs.Common.{◌≡◌, ℕ, suc, ◌+◌, ◌-◌, ◌<◌, ◌≤◌, ◌==◌, ◌&&◌, Bool, true, false, not, nat_lt, if◌then◌else◌, List, [], ◌∷◌, length, map, slice_index, take, drop, Option, Some, None, IfSome, is_some, inl, inr, refl, sym, ap, subst, ◌∙◌, arith}
+use Rattle.std.proofs.lemmas.Bool.{cases_Bool, lt-ltb}
 use Rattle.std.proofs.lemmas.Bool.Decides.{nat_tests}
 use Rattle.std.proofs.lemmas.Grind.{common_steps}
 use Rattle.ow_base.specs.Images.{Image}
 use Rattle.record_layouts.specs.declared.dead_proc.DeadProc.{DeadProc}
 use Rattle.record_layouts.specs.declared.desc.DescRec.{DescRec}
-use Rattle.record_layouts.specs.declared.exit.ExitRec.{ExitRec}
 use Rattle.record_layouts.specs.declared.places.RecordId.TheVariants as id
 use Rattle.record_layouts.specs.declared.proc.ProcRec.{ProcRec}
 use Rattle.record_layouts.specs.Decode.{decodes, is_number, pid_in, slot_by}
 use Rattle.record_layouts.specs.Desc.{FitsDesc, is_on_file, is_on_terminal}
 use Rattle.record_layouts.specs.Held.{Records}
 use Rattle.record_layouts.specs.Images.{records_of_image}
-use Rattle.record_layouts.specs.Left.{HandedOver, call_found, dead_proc, has_handed_bank, left_rec, may_lack_page, with_handed_bank}
+use Rattle.record_layouts.specs.Left.{HandedOver, dead_proc, has_handed_bank, left_rec, may_lack_page, with_handed_bank}
 use Rattle.record_layouts.specs.LeftImages.{unix_left, wounds_of}
 use Rattle.record_layouts.specs.Pages.{is_live, is_mapped}
-use Rattle.record_layouts.specs.Proc.{FitsProc, proc_in}
+use Rattle.record_layouts.specs.Proc.{proc_in}
 use Rattle.record_layouts.specs.Reading.{records_in, records_of}
 use Rattle.record_layouts.specs.Sound.{IsIn}
 use Rattle.record_layouts.specs.SoundImages.{IsSoundAtPanic}
@@ -26,12 +25,10 @@ use Rattle.record_layouts.specs.Unix.Wounds.{Wounds, no_wounds}
 use Rattle.record_layouts.proofs.LeftImages.{whole}
 use Rattle.record_layouts.proofs.Least.{any_none, least_found}
 use Rattle.record_layouts.proofs.Reading.{proc_is}
-use Rattle.frame_table.proofs.Counting.{fits_there}
 use Rattle.dead_reader.specs.Losses.{bit_if, bits_lost, loses_at, one_loses}
-use Rattle.resurrector.specs.Procedures.{fate_with, revived}
-use Rattle.resurrector.specs.Survivors.{fate_in, is_closed_by, kept_open, left_in, survivor_in, with_descriptors}
+use Rattle.resurrector.specs.Procedures.{fate_with}
+use Rattle.resurrector.specs.Survivors.{fate_in, kept_open, left_in}
 use Rattle.resurrector.proofs.Outcomes.{no_owner}
-use Rattle.resurrector.proofs.UnhurtRecords.{not_lost}
 
 pub number_is : (o : Option ℕ) (slot : ℕ) → is_number o slot ≡ true → o ≡ Some slot
 number_is (Some n) slot is = let same : n ≡ slot = grind (arith, nat_tests, is) in ap Some same

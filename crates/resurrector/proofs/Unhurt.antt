@@ -1,11 +1,10 @@
 -- What a panic that wounds nothing makes of a process, and of the record that is read of it.
-use Rattle.std.proofs.Common.{◌≡◌, ℕ, ◌+◌, ◌/◌, ◌%◌, ◌==◌, Bool, true, false, not, if◌then◌else◌, List, [], ◌∷◌, Option, Some, None, inl, inr, refl, sym, ap, ◌∙◌, arith}
-use Rattle.std.specs.Prelude.{map, bit_or}
+use Rattle.std.proofs.Common.{◌≡◌, ℕ, ◌+◌, ◌==◌, Bool, false, if◌then◌else◌, List, [], ◌∷◌, Option, Some, None, inl, inr, refl}
+use Rattle.std.specs.Prelude.{map}
 use Rattle.std.proofs.lemmas.Bool.{cases_Bool}
-use Rattle.std.proofs.lemmas.Bool.Decides.{nat_tests}
 use Rattle.record_layouts.specs.Unix.State.{Unix, Process, Out, Description, Object, OnFile, OnTty}
 use Rattle.record_layouts.specs.Unix.Wounds.{no_wounds}
-use Rattle.record_layouts.specs.Unix.Abort.{after_call, bit_if, bits_lost, bits_of, brought_out, call_at, context_with, fate_of, fate_of_call, has_passing, in_procedure, is_aborted, is_closed, is_made_again, is_open_on, kept_by, mask_with, passes, survivor, unless_closed}
+use Rattle.record_layouts.specs.Unix.Abort.{after_call, bit_if, bits_lost, bits_of, brought_out, call_at, fate_of, fate_of_call, has_passing, in_procedure, is_aborted, is_closed, is_made_again, is_open_on, kept_by, mask_with, passes, survivor, unless_closed}
 use Rattle.record_layouts.specs.declared.fates.Fate.{Fate}
 use Rattle.record_layouts.specs.declared.fates.Fate.TheVariants as fate
 

@@ -1,25 +1,22 @@
 -- The record with which a process goes on that lost nothing stands for the process that Abort leaves.
-use Rattle.std.proofs.Common.{◌≡◌, ℕ, ◌+◌, ◌/◌, ◌%◌, ◌==◌, Bool, true, false, if◌then◌else◌, Option, Some, None, inl, inr, refl, sym, ap, ◌∙◌, arith}
-use Rattle.std.specs.Prelude.{bit_or}
+use Rattle.std.proofs.Common.{◌≡◌, ℕ, ◌+◌, ◌/◌, ◌%◌, ◌==◌, true, false, if◌then◌else◌, Option, Some, None, inl, inr, refl, sym, ap, ◌∙◌, arith}
 use Rattle.std.proofs.lemmas.Bool.{cases_Bool}
 use Rattle.std.proofs.lemmas.Bool.Decides.{nat_tests}
 use Rattle.ow_base.specs.Sv32.{WordMap}
 use Rattle.ow_base.specs.UserStep.{with_register}
 use Rattle.ow_base.specs.Words.{minus, wrapped}
-use Rattle.ow_base.specs.declared.machine.Bank.{Bank}
 use Rattle.record_layouts.specs.declared.dead_proc.DeadProc.{DeadProc}
 use Rattle.record_layouts.specs.declared.proc.ProcRec.{ProcRec}
-use Rattle.record_layouts.specs.Decode.{handler_save_of, procedure_save_of, process_of}
+use Rattle.record_layouts.specs.Decode.{procedure_save_of, process_of}
 use Rattle.record_layouts.specs.Held.{Records}
 use Rattle.record_layouts.specs.Pages.{frame_of, is_live, pages_of, region_of}
 use Rattle.record_layouts.specs.Unix.State.{Process, Out}
 use Rattle.record_layouts.specs.Unix.Abort.{bit_if, context_with, fate_of_call, is_aborted, is_made_again, mask_with, stands_at}
 use Rattle.record_layouts.specs.Unix.Abort.{in_procedure as enters}
-use Rattle.record_layouts.specs.declared.fates.Fate.{Fate}
 use Rattle.record_layouts.specs.declared.fates.Fate.TheVariants as fate
 use Rattle.resurrector.specs.Procedures.{aborted_call, bits_told, brought_out, context_saved, fate_by_call, fate_with, in_procedure, is_in_procedure, is_lost, mask_told, revived}
-use Rattle.resurrector.proofs.Paged.{IsPagedAs, paged_pages}
-use Rattle.resurrector.proofs.Unhurt.{carried_on, fate_by, outside, told}
+use Rattle.resurrector.proofs.Paged.{paged_pages}
+use Rattle.resurrector.proofs.Unhurt.{carried_on, fate_by, outside}
 
 context_same : (process : ProcRec) → context_with (procedure_save_of process) (record { pc = process.pc; regs = process.regs }) ≡ context_saved process
 context_same process = elim (cases_Bool (process.flags / 2 == 1)) [
