@@ -1,5 +1,7 @@
 -- Lemmas of the resurrector: a process that goes on can be spelled, descriptors that are closed, what became of slots, the
--- next pid, frames of pages, the fates that are told, and the records that decode.
+-- next pid, frames of pages, the fates that are told, and the records that decode; and, where the panic damaged nothing, that
+-- what is built stands for the state that Abort leaves: first for a process and its record alone, then for pages, records,
+-- processes, descriptions and the whole.
 pub mod Reviving
 pub mod Descriptors
 pub mod Outcomes
@@ -8,3 +10,15 @@ pub mod Frames
 pub mod Telling
 pub mod Whole
 pub mod Outside
+pub mod Paged
+pub mod RebuiltPages
+pub mod Unhurt
+pub mod UnhurtRecords
+pub mod Undamaged
+pub mod Survivals
+pub mod RebuiltRecords
+pub mod RebuiltProcesses
+pub mod RebuiltDescriptions
+pub mod RebuiltUnix
+pub mod ToldFates
+pub mod Built

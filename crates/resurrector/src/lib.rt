@@ -1,6 +1,7 @@
 //! The resurrector: from what a kernel left that panicked, it builds one that can go on, in frames of its own.
 #![tactic(auto)]
 
+mod abort_laws;
 mod laws;
 mod left;
 mod procedures;
@@ -8,6 +9,7 @@ mod resurrecting;
 mod revived;
 mod survivors;
 
+pub use abort_laws::{built_kernels_are_revived, revived_kernels_are_of_abort, told_fates_are_of_abort};
 pub use laws::{revived_processes_are_outside, revived_records_decode};
 pub use procedures::revive;
 pub use record_layouts::Fate;
