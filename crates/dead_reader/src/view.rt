@@ -25,8 +25,12 @@ use record_layouts::{
 /// It answers over any words: no number of the dead is used before its range is tested, and no page is in two frames or
 /// two pages in one.
 #[derive(Drop)]
-pub struct DeadView<'d, M> {
+pub struct DeadView<'d, M: DeadMemory> {
     memory: &'d M,
+    // Its area. It stands as long as the view, since the end of the open intent is found as it is made.
+    area: AreaView<'d, M>,
+    ghost source: { area.source.now ≡ memory.now },
+    ghost map: { area.map ≡ half_map (M.dead memory.now).area (M.dead memory.now).user_frames (M.dead memory.now).sectors },
 }
 
 impl<'d, M: DeadMemory> DeadView<'d, M> {
@@ -34,24 +38,15 @@ impl<'d, M: DeadMemory> DeadView<'d, M> {
     pub fn new(memory: &'d M) -> DeadView<'d, M>
         ensures { result.memory.now ≡ memory.now }
     {
-        DeadView { memory }
+        let map = MemoryMap::of_area(memory.area(), memory.user_frames(), memory.sectors());
+        DeadView {
+            memory,
+            area: AreaView::new(memory, map),
+        }
     }
 }
 
 impl<M: DeadMemory> DeadView<'_, M> {
-    // Its area.
-    fn view(&self) -> AreaView<'_, M>
-        ensures source { result.source.now ≡ self.now.memory.now }
-        ensures map { result.map ≡ half_map (M.dead self.now.memory.now).area (M.dead self.now.memory.now).user_frames (M.dead self.now.memory.now).sectors }
-    {
-        let map = MemoryMap::of_area(
-            self.memory.area(),
-            self.memory.user_frames(),
-            self.memory.sectors(),
-        );
-        AreaView::new(self.memory, map)
-    }
-
     /// The pid that is live in a slot by the exit records, the least where there are several.
     pub fn pid_in(&self, slot: u32) -> Option<u32>
         ensures { result ≡ pid_in (records_left (M.dead self.now.memory.now) (M.words self.now.memory.now)) slot }
@@ -120,62 +115,62 @@ impl<M: DeadMemory> RecordView for DeadView<'_, M> {
     ghost values = { λ v. are_values (half_map (M.dead v.memory.now).area (M.dead v.memory.now).user_frames (M.dead v.memory.now).sectors) (M.words v.memory.now) };
 
     fn head(&self) -> Option<HeadRec> {
-        self.view().head()
+        self.area.head()
     }
 
     fn proc(&self, slot: u32) -> Option<ProcRec> {
-        self.view().proc(slot)
+        self.area.proc(slot)
     }
 
     fn sig(&self, slot: u32) -> Option<SigRec> {
-        self.view().sig(slot)
+        self.area.sig(slot)
     }
 
     fn desc(&self, i: u32) -> Option<DescRec> {
-        self.view().desc(i)
+        self.area.desc(i)
     }
 
     fn file(&self, i: u32) -> Option<FileRec> {
-        self.view().file(i)
+        self.area.file(i)
     }
 
     fn cache(&self, i: u32) -> Option<CacheRec> {
-        self.view().cache(i)
+        self.area.cache(i)
     }
 
     fn term(&self, tty: u32) -> Option<TermRec> {
-        self.view().term(tty)
+        self.area.term(tty)
     }
 
     fn row(&self, i: u32) -> Option<RowRec> {
-        self.view().row(i)
+        self.area.row(i)
     }
 
     fn exit(&self, pid: u32) -> Option<ExitRec> {
-        self.view().exit(pid)
+        self.area.exit(pid)
     }
 
     fn owner(&self, frame: u32) -> u32 {
-        self.view().owner(frame)
+        self.area.owner(frame)
     }
 
     fn cache_owner(&self, i: u32) -> u32 {
-        self.view().cache_owner(i)
+        self.area.cache_owner(i)
     }
 
     fn table_word(&self, slot: u32, table: u32, word: u32) -> u32 {
-        self.view().table_word(slot, table, word)
+        self.area.table_word(slot, table, word)
     }
 
     fn area_base(&self) -> u32 {
-        self.view().area_base()
+        self.area.area_base()
     }
 
     fn cache_base(&self) -> u32 {
-        self.view().cache_base()
+        self.area.cache_base()
     }
 
     fn pool_base(&self) -> u32 {
-        self.view().pool_base()
+        self.area.pool_base()
     }
 }

@@ -76,7 +76,8 @@ impl<W: WordSource> AreaView<'_, W> {
         ensures { words.new ≡ words_of (overlay (area_at (W.words self.now.source.now) self.now.map.area_base)) id }
     {
         let (frame, word) = address(id);
-        self.area().read(self.end, FRAME_WORDS * frame + word, words);
+        self.area()
+            .read(self.end, FRAME_WORDS * frame + word, words);
     }
 
     // The word of a process record that tells the state.
@@ -85,7 +86,8 @@ impl<W: WordSource> AreaView<'_, W> {
         ensures { result ≡ overlay (area_at (W.words self.now.source.now) self.now.map.area_base) (first_word (RecordId.Proc slot) + 1) }
     {
         let (frame, word) = address(RecordId::Proc(slot));
-        self.area().shown(self.end, FRAME_WORDS * frame + word + STATE)
+        self.area()
+            .shown(self.end, FRAME_WORDS * frame + word + STATE)
     }
 }
 
@@ -185,7 +187,10 @@ impl<W: WordSource> RecordView for AreaView<'_, W> {
     }
 
     fn table_word(&self, slot: u32, table: u32, word: u32) -> u32 {
-        self.area().shown(self.end, FRAME_WORDS * (FIRST_TABLE + TABLES_OF_SLOT * slot + table) + word)
+        self.area().shown(
+            self.end,
+            FRAME_WORDS * (FIRST_TABLE + TABLES_OF_SLOT * slot + table) + word,
+        )
     }
 
     fn area_base(&self) -> u32 {
