@@ -20,4 +20,5 @@ pub mod RebuiltProcesses
 pub mod RebuiltDescriptions
 pub mod RebuiltUnix
 pub mod ToldFates
+pub mod FewFates
 pub mod Built

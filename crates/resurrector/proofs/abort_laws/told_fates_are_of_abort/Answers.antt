@@ -1,3 +1,4 @@
+use Rattle.resurrector.proofs.FewFates.{few_fates}
 use Rattle.resurrector.proofs.ToldFates.{fates_same}
 use Rattle.resurrector.proofs.abort_laws.told_fates_are_of_abort.Goals as goal
 
