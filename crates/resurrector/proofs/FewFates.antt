@@ -1,5 +1,5 @@
 -- At most sixteen fates are told after a panic which damaged nothing, as no two pids are live in one slot.
-use Rattle.std.proofs.Common.{◌≡◌, ℕ, zero, suc, ◌+◌, ◌<◌, ◌≤◌, Bool, true, false, List, [], ◌∷◌, ◌++◌, length, All, Option, Some, None, inl, inr, refl, sym, ap, subst, ◌∙◌, arith}
+use Rattle.std.proofs.Common.{◌≡◌, ℕ, zero, suc, ◌+◌, ◌<◌, ◌≤◌, true, false, List, [], ◌∷◌, length, All, Option, Some, None, inl, inr, refl, sym, ap, ◌∙◌, arith}
 use Rattle.std.proofs.lemmas.Bool.{cases_Bool, cases_lt}
 use Rattle.std.proofs.lemmas.Bool.Decides.{nat_tests}
 use Rattle.std.proofs.lemmas.List.{length-append}
@@ -15,7 +15,6 @@ use Rattle.record_layouts.specs.Held.{Records}
 use Rattle.record_layouts.specs.Images.{records_of_image}
 use Rattle.record_layouts.specs.Left.{HandedOver}
 use Rattle.record_layouts.specs.SoundImages.{IsSoundAtPanic}
-use Rattle.record_layouts.specs.declared.fates.Fate.{Fate}
 use Rattle.resurrector.specs.Survivors.{fate_of, fates_to, told_of}
 use Rattle.resurrector.proofs.Survivals.{fate_told}
 use Rattle.resurrector.proofs.Undamaged.{slot_low}

@@ -22,3 +22,4 @@ pub mod RebuiltUnix
 pub mod ToldFates
 pub mod FewFates
 pub mod Built
+pub mod LeftRevivals
