@@ -1,5 +1,6 @@
 //! The last store of a revival: the kernel that was built takes over.
 #![tactic(auto)]
+
 ghost use Rattle.std.specs.Prelude.{◌≡◌, ◌↔◌, true, IsErr, IsTrue, OnErr, OnOk};
 ghost use Rattle.ow_plant.specs.State.{refuses, store_refused, with_live};
 ghost use Rattle.kernel_takeover.specs.Areas.{other_area};

@@ -10,7 +10,7 @@ use Rattle.phys_memory.specs.Halves.{own_half, with_own}
 use Rattle.phys_memory.specs.Memory.{IsSized, MemoryParts, whole, with_first}
 use Rattle.ow_plant.specs.Past.{PastPanics, TakesEntry, no_past}
 use Rattle.ow_base.specs.declared.machine.Panicked.{Panicked}
-use Rattle.ow_plant.specs.Lent.{LentState, lent_counted, lent_refused, lent_refuses}
+use Rattle.ow_plant.specs.Lent.{LentState, lent_counted, lent_refused, lent_refuses, put_together}
 use Rattle.ow_plant.specs.Points.{entered_by, has_come, is_in, points_of}
 use Rattle.ow_plant.specs.State.{FitsShape, IsPlant, first_refusal, risen}
 use Rattle.ow_plant.specs.declared.past.Told.{Told}
@@ -111,10 +111,10 @@ either_test true b is first second = first refl
 either_test false b is first second = second is
 
 module _ (armed : Bool) (user_frames : ℕ) (m : MemoryParts) (live : AreaId) (points : List PanicPoint) (reviving : Bool) (traps : ℕ) (past : PastPanics) (old new : LentState)
-    (is : IsPlant armed user_frames (with_own m live old.own) points reviving old.refusal traps past) where
+    (is : IsPlant armed user_frames (put_together reviving m live old.own) points reviving old.refusal traps past) where
   -- a plant of which this is lent
   abbrev IsWith : LentState → Type 0
-  IsWith lent = IsPlant armed user_frames (with_own m live lent.own) points reviving lent.refusal traps past
+  IsWith lent = IsPlant armed user_frames (put_together reviving m live lent.own) points reviving lent.refusal traps past
 
   -- where a store is refused a point has come, unless another kernel takes over
   refuses_due : lent_refuses points traps old ≡ true → reviving ≡ false → list_any (has_come traps) points ≡ true

@@ -1,8 +1,10 @@
 -- What of a plant is lent to a kernel that takes over, and what its stores make of it.
-use Rattle.std.specs.Prelude.{ℕ, ◌+◌, ◌-◌, ◌*◌, Bool, ◌==◌, ◌||◌, if◌then◌else◌, List, Option, None, is_some, slice_set}
+use Rattle.std.specs.Prelude.{ℕ, ◌+◌, ◌-◌, ◌*◌, Bool, ◌==◌, ◌||◌, if◌then◌else◌, List, [], Option, None, is_some, slice_set}
 use Rattle.std.specs.List.{list_any}
+use Rattle.ow_base.specs.declared.machine.AreaId.{AreaId}
 use Rattle.ow_base.specs.declared.machine.Shape.{Shape}
 use Rattle.phys_memory.specs.Halves.{own_half, with_own}
+use Rattle.phys_memory.specs.Memory.{MemoryParts}
 use Rattle.ow_plant.specs.Points.{is_past}
 use Rattle.ow_plant.specs.State.{Device, PlantState, first_refusal, painted, put_on, risen, risen_far, silent_device, with_cursor}
 use Rattle.ow_plant.specs.declared.points.PanicPoint.{PanicPoint}
@@ -19,10 +21,14 @@ pub record LentState : Type 0 where
   pub all_stores : ℕ
   pub refusal : Option Refusal
 
--- of a plant that is armed with a shape and did nothing yet, beside the words
-abbrev pub lent_at_first : Shape → (own : List ℕ) → LentState
-lent_at_first shape own = record {
-  own = own;
+-- memory of which the half that is not live may lie apart
+abbrev pub put_together : (apart : Bool) → MemoryParts → (live : AreaId) → (own : List ℕ) → MemoryParts
+put_together apart seen live own = if apart then with_own seen live own else seen
+
+-- of a plant that is armed with a shape and did nothing yet: all words lie in memory
+abbrev pub lent_at_first : Shape → LentState
+lent_at_first shape = record {
+  own = [];
   tty0 = silent_device (16 * shape.budget);
   tty1 = silent_device (16 * shape.budget);
   budget = shape.budget;

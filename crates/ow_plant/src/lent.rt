@@ -1,9 +1,9 @@
 //! What of a plant a kernel that takes over may change.
-ghost use Rattle.std.specs.Prelude.{◌≡◌, ℕ, ◌+◌, ◌-◌, ◌*◌, ◌^◌, ◌<◌, ◌≤◌, ◌↔◌, true, [], None, length, slice_set, IfOk, IsTrue, IsErr, OnOk, OnErr};
+ghost use Rattle.std.specs.Prelude.{◌≡◌, ℕ, ◌+◌, ◌-◌, ◌*◌, ◌^◌, ◌<◌, ◌≤◌, ◌↔◌, if◌then◌else◌, true, [], None, length, slice_set, IfOk, IsTrue, IsErr, OnOk, OnErr};
 ghost use Rattle.phys_memory.specs.Halves.{is_among, own_half, with_own, words_from};
 ghost use Rattle.phys_memory.specs.Memory.{words_of};
 ghost use Rattle.ow_plant.specs.State.{blanked, painted, put_on, silent_device, with_cursor};
-ghost use Rattle.ow_plant.specs.Lent.{lent_counted, lent_refused, lent_refuses, lent_tty, with_tty};
+ghost use Rattle.ow_plant.specs.Lent.{lent_counted, lent_refused, lent_refuses, lent_tty, put_together, with_tty};
 ghost use Rattle.ow_plant.specs.declared.refusal.Refusal.TheVariants.{Store};
 
 use crate::displays::Display;
@@ -17,7 +17,8 @@ use std::alloc::{AllocError, Global};
 use std::marker::Model;
 
 /// What of a plant a kernel that takes over may change: the half of memory that is not live, the two terminals, the counts
-/// of stores, and what was refused. The plant keeps it apart from all else, so that it can be lent by itself.
+/// of stores, and what was refused. The plant keeps it apart from all else, so that it can be lent by itself. Only the half
+/// lies in memory, and not here, except from a panic's entry until another area is live.
 ///
 /// Contracts see it as a `LentState`.
 #[derive(Drop)]
@@ -96,12 +97,24 @@ impl Lent {
         let _ = &self.budget;
     }
 
-    /// Puts the half of memory that is not `live` in the place of the one that lies apart, and that one in its place.
+    /// Puts the words that lie apart in the place of the half of memory that is not `live`, and that half in theirs.
     pub(crate) fn exchange(&mut self, seen: &mut UserMemory, live: AreaId)
         ensures seen { seen.new ≡ record seen.old { memory = with_own seen.old.memory live self.old.own } }
         ensures own { self.new ≡ record self.old { own = own_half seen.old.memory live } }
     {
         seen.exchange(live, &mut self.own);
+    }
+
+    /// Does as `exchange` where a half of memory lies apart, and else nothing. A call before
+    /// memory changes, and another after it, let all of it lie together meanwhile.
+    #[inline(always)]
+    pub(crate) fn exchange_if(&mut self, apart: bool, seen: &mut UserMemory, live: AreaId)
+        ensures seen { seen.new ≡ record seen.old { memory = put_together apart seen.old.memory live self.old.own } }
+        ensures own { self.new ≡ record self.old { own = if apart then own_half seen.old.memory live else self.old.own } }
+    {
+        if apart {
+            self.exchange(seen, live);
+        }
     }
 
     /// How many frames there are in the half that lies apart.

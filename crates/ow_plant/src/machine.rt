@@ -1,7 +1,7 @@
 //! The plant: processor, memory and terminals.
 ghost use Rattle.std.specs.Prelude.{◌≡◌, ◌≢◌, if◌then◌else◌, ℕ, ◌+◌, ◌*◌, ◌^◌, ◌<◌, ◌≤◌, ◌↔◌, true, false, [], None, length, is_some, IsTrue, IsErr, IsNone, IfOk, IfSome, OnOk, OnErr};
 ghost use Rattle.std.specs.Borrow.{sem};
-ghost use Rattle.phys_memory.specs.Halves.{with_own, words_beside};
+ghost use Rattle.phys_memory.specs.Halves.{words_beside};
 ghost use Rattle.phys_memory.specs.Reading.{words_read};
 ghost use Rattle.phys_memory.specs.Memory.{frame_count, with_word, words_of, zeroed};
 ghost use Rattle.ow_plant.specs.Points.{ArePoints, points_of};
@@ -52,7 +52,7 @@ pub struct Plant {
     user_frames: u32,
     sectors: u32,
     quantum: u32,
-    /// Memory, in which other frames stand in the place of the half that is not live.
+    /// Memory; while `reviving`, with other frames in the place of the half that is not live, which then lies in `lent`.
     seen: UserMemory,
     bank: Bank,
     in_user: bool,
@@ -72,7 +72,7 @@ pub struct Plant {
 }
 
 impl Model for Plant {
-    ghost use Rattle.phys_memory.specs.Halves.{with_own};
+    ghost use Rattle.ow_plant.specs.Lent.{put_together};
     ghost use Rattle.ow_plant.specs.State.{PlantState, IsPlant};
 
     ghost Value = { PlantState };
@@ -80,7 +80,7 @@ impl Model for Plant {
     ghost view = { λ p. record {
       armed = p.armed;
       shape = record { user_frames = p.user_frames; sectors = p.sectors; quantum = p.quantum; budget = p.lent.budget };
-      memory = with_own p.seen.memory p.live p.lent.own;
+      memory = put_together p.reviving p.seen.memory p.live p.lent.own;
       satp = p.seen.satp;
       bank = p.bank;
       in_user = p.in_user;
@@ -102,22 +102,19 @@ impl Model for Plant {
       history = p.past.entries;
     } };
 
-    ghost invariant = { λ p. IsPlant p.armed p.user_frames (with_own p.seen.memory p.live p.lent.own) p.points p.reviving p.lent.refusal p.traps p.past };
+    ghost invariant = { λ p. IsPlant p.armed p.user_frames (put_together p.reviving p.seen.memory p.live p.lent.own) p.points p.reviving p.lent.refusal p.traps p.past };
 }
 
-/// Memory with 0 in each word, of which half B lies apart, and with it two silent terminals. `AllocError` comes only for
-/// want of memory.
+/// Memory with 0 in each word, and two silent terminals. `AllocError` comes only for want of memory.
 fn blank_machine(alloc: Global, shape: Shape) -> Result<(UserMemory, Lent), AllocError>
     requires frames { shape.user_frames ≤ 384 }
     requires budget { shape.budget ≤ 2000000 }
-    ensures memory { IfOk result (λ made. with_own made.0.memory AreaId.A made.1.own ≡ zeroed shape.user_frames) }
-    ensures lent { IfOk result (λ made. made.1 ≡ lent_at_first shape made.1.own) }
+    ensures memory { IfOk result (λ made. made.0.memory ≡ zeroed shape.user_frames) }
+    ensures lent { IfOk result (λ made. made.1 ≡ lent_at_first shape) }
 {
     let memory = Memory::new(alloc, shape.user_frames)?;
-    let mut lent = Lent::with_budget(alloc, shape.budget)?;
-    let mut seen = UserMemory { memory, satp: SV32 };
-    lent.exchange(&mut seen, AreaId::A);
-    Ok((seen, lent))
+    let lent = Lent::with_budget(alloc, shape.budget)?;
+    Ok((UserMemory { memory, satp: SV32 }, lent))
 }
 
 impl Plant {
@@ -212,12 +209,22 @@ impl Plant {
         requires frame { frame < frame_count self.now.memory }
         ensures { words_of self.now.memory frame word ≡ Some result }
     {
-        match self
-            .lent
-            .load_with(self.seen.memory(), self.live, frame, word)
-        {
+        match self.word_at(frame, word) {
             Some(value) => value,
             None => unreachable!(),
+        }
+    }
+
+    /// The word of a frame at a place below 1,024. `None` comes exactly where there is no such frame.
+    fn word_at(&self, frame: u32, word: u32) -> Option<u32>
+        requires word { word < 1024 }
+        ensures { result ≡ words_of self.now.memory frame word }
+    {
+        if self.reviving {
+            self.lent
+                .load_with(self.seen.memory(), self.live, frame, word)
+        } else {
+            self.seen.memory().load(frame, word)
         }
     }
 
@@ -243,9 +250,11 @@ impl Plant {
         requires frame { frame < frame_count self.old.memory }
         ensures { self.new ≡ record self.old { memory = with_word self.old.memory frame word value } }
     {
-        self.lent.exchange(&mut self.seen, self.live);
+        self.lent
+            .exchange_if(self.reviving, &mut self.seen, self.live);
         self.seen.set_word(frame, word, value);
-        self.lent.exchange(&mut self.seen, self.live);
+        self.lent
+            .exchange_if(self.reviving, &mut self.seen, self.live);
     }
 
     /// Whether the end of the trap is refused now: then a point of it has come.
@@ -393,9 +402,11 @@ impl Plant {
         if self.slice >= self.quantum {
             return UserEnd::Slice;
         }
-        self.lent.exchange(&mut self.seen, self.live);
+        self.lent
+            .exchange_if(self.reviving, &mut self.seen, self.live);
         let end = step(&mut self.bank.regs, &mut self.bank.pc, &mut self.seen);
-        self.lent.exchange(&mut self.seen, self.live);
+        self.lent
+            .exchange_if(self.reviving, &mut self.seen, self.live);
         match end {
             StepEnd::Next => {
                 self.slice += 1;
@@ -575,7 +586,6 @@ impl Plant {
     {
         let handed_over = self.handed_over();
         let told = self.told();
-        self.lent.exchange(&mut self.seen, self.live);
         self.seen.set_first(&handed_over.to_words());
         self.past.add(told, self.seen.memory());
         self.lent.exchange(&mut self.seen, self.live);
@@ -640,7 +650,6 @@ impl Plant {
     {
         self.count_store()?;
         self.lent.exchange(&mut self.seen, self.live);
-        self.lent.exchange(&mut self.seen, area);
         self.live = area;
         self.reviving = false;
         Ok(())
@@ -658,7 +667,6 @@ impl WordSource for Plant {
     ghost words = { λ p. words_of p.memory };
 
     fn load(&self, frame: u32, word: u32) -> Option<u32> {
-        self.lent
-            .load_with(self.seen.memory(), self.live, frame, word)
+        self.word_at(frame, word)
     }
 }

@@ -1,6 +1,7 @@
 //! A view of the records of an area.
-ghost use Rattle.std.specs.Prelude.{◌≡◌, ◌+◌, ◌<◌, length};
-ghost use Rattle.record_layouts.specs.Overlay.{area_at, overlay};
+ghost use Rattle.std.specs.Prelude.{◌≡◌, ◌+◌, ◌<◌, length, None};
+ghost use Rattle.std.specs.Option.{ForNone, ForSome};
+ghost use Rattle.record_layouts.specs.Overlay.{EndsOpen, area_at, open_ranges, overlay};
 ghost use Rattle.record_layouts.specs.Places.{IsRecordId, first_word, length_of};
 ghost use Rattle.record_layouts.specs.Reading.{FitsMap, words_of};
 ghost use Rattle.record_layouts.specs.declared.places.RecordId.{RecordId};
@@ -29,13 +30,18 @@ const STATE: u32 = 1;
 /// A word that memory does not have reads as 0. Where the gate is open and no valid intent is, the head does not
 /// decode.
 #[derive(Drop)]
-pub struct AreaView<'a, W> {
+pub struct AreaView<'a, W: WordSource> {
     source: &'a W,
     map: MemoryMap,
+    // Where the payload of the open intent ends, if a valid one is open. Memory does not change while the view stands,
+    // so this is found once.
+    end: Option<u32>,
     ghost fits: { FitsMap map },
+    ghost open: { ForSome end (EndsOpen (area_at (W.words source.now) map.area_base)) },
+    ghost closed: { ForNone end (open_ranges (area_at (W.words source.now) map.area_base) ≡ None) },
 }
 
-impl<'a, W> AreaView<'a, W> {
+impl<'a, W: WordSource> AreaView<'a, W> {
     /// A view of the area that the map names. The frames of the area, of the cache and of users have numbers below
     /// 2^32, and there are at most 384 user frames.
     pub fn new(source: &'a W, map: MemoryMap) -> AreaView<'a, W>
@@ -43,7 +49,12 @@ impl<'a, W> AreaView<'a, W> {
         ensures source { result.source.now ≡ source.now }
         ensures map { result.map ≡ map }
     {
-        AreaView { source, map }
+        let end = Area {
+            source,
+            base: map.area_base,
+        }
+        .open_end();
+        AreaView { source, map, end }
     }
 
     fn area(&self) -> Area<'_, W>
@@ -65,7 +76,7 @@ impl<W: WordSource> AreaView<'_, W> {
         ensures { words.new ≡ words_of (overlay (area_at (W.words self.now.source.now) self.now.map.area_base)) id }
     {
         let (frame, word) = address(id);
-        self.area().read(FRAME_WORDS * frame + word, words);
+        self.area().read(self.end, FRAME_WORDS * frame + word, words);
     }
 
     // The word of a process record that tells the state.
@@ -74,7 +85,7 @@ impl<W: WordSource> AreaView<'_, W> {
         ensures { result ≡ overlay (area_at (W.words self.now.source.now) self.now.map.area_base) (first_word (RecordId.Proc slot) + 1) }
     {
         let (frame, word) = address(RecordId::Proc(slot));
-        self.area().overlaid(FRAME_WORDS * frame + word + STATE)
+        self.area().shown(self.end, FRAME_WORDS * frame + word + STATE)
     }
 }
 
@@ -96,7 +107,7 @@ impl<W: WordSource> RecordView for AreaView<'_, W> {
     ghost values = { λ view. are_values view.map (W.words view.source.now) };
 
     fn head(&self) -> Option<HeadRec> {
-        if self.area().gate() == Gate::Broken {
+        if self.area().gate(self.end) == Gate::Broken {
             return None;
         }
         let mut words = [0; 16];
@@ -163,18 +174,18 @@ impl<W: WordSource> RecordView for AreaView<'_, W> {
 
     fn owner(&self, frame: u32) -> u32 {
         if frame < self.map.user_frames {
-            self.area().overlaid(OWNERS + frame)
+            self.area().shown(self.end, OWNERS + frame)
         } else {
             0
         }
     }
 
     fn cache_owner(&self, i: u32) -> u32 {
-        self.area().overlaid(CACHE_OWNERS + i)
+        self.area().shown(self.end, CACHE_OWNERS + i)
     }
 
     fn table_word(&self, slot: u32, table: u32, word: u32) -> u32 {
-        self.area().overlaid(FRAME_WORDS * (FIRST_TABLE + TABLES_OF_SLOT * slot + table) + word)
+        self.area().shown(self.end, FRAME_WORDS * (FIRST_TABLE + TABLES_OF_SLOT * slot + table) + word)
     }
 
     fn area_base(&self) -> u32 {

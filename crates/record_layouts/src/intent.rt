@@ -121,34 +121,30 @@ impl<W: WordSource> Area<'_, W> {
             .unwrap_or(0)
     }
 
-    /// What the intent block says.
-    #[tactic(auto, unfolding(crate::specs::Overlay::open_ranges))]
-    pub(crate) fn gate(&self) -> Gate
+    /// What the intent block says, where `end` is the answer of `open_end`.
+    pub(crate) fn gate(&self, end: Option<u32>) -> Gate
+        requires open { IfSome end (EndsOpen (area_at (W.words self.now.source.now) self.now.base)) }
+        requires closed { IfNone end (open_ranges (area_at (W.words self.now.source.now) self.now.base) ≡ None) }
         ensures { result ≡ gate_of (area_at (W.words self.now.source.now) self.now.base) }
     {
         if self.word(GATE) == 0 {
             Gate::Closed
-        } else if self.open_end().is_some() {
+        } else if end.is_some() {
             Gate::Open
         } else {
             Gate::Broken
         }
     }
 
-    /// The word of this number, with a valid open intent laid over it.
-    pub(crate) fn overlaid(&self, number: u32) -> u32
-        requires { number < 65536 }
-        ensures { result ≡ overlay (area_at (W.words self.now.source.now) self.now.base) number }
-    {
-        self.shown(self.open_end(), number)
-    }
-
-    /// Fills `words` with those from the number `first` on, with a valid open intent laid over them.
-    pub(crate) fn read(&self, first: u32, words: &mut [u32])
-        requires { first + length words.old ≤ 65536 }
+    /// Fills `words` with those from the number `first` on, with a valid open intent laid over them. `end` is the
+    /// answer of `open_end`.
+    pub(crate) fn read(&self, end: Option<u32>, first: u32, words: &mut [u32])
+        requires room { first + length words.old ≤ 65536 }
+        requires open { IfSome end (EndsOpen (area_at (W.words self.now.source.now) self.now.base)) }
+        requires closed { IfNone end (open_ranges (area_at (W.words self.now.source.now) self.now.base) ≡ None) }
         ensures { words.new ≡ words_from (overlay (area_at (W.words self.now.source.now) self.now.base)) first (length words.old) }
     {
-        match self.open_end() {
+        match end {
             Some(end) => self.read_laid(end, first, words),
             None => self.read_own(first, words),
         }
@@ -175,9 +171,9 @@ impl<W: WordSource> Area<'_, W> {
         }
     }
 
-    // The word of this number, with the intent laid over it whose payload ends at `end`, or as it is if none is open.
+    /// The word of this number, with a valid open intent laid over it. `end` is the answer of `open_end`.
     #[tactic(auto, unfolding(crate::specs::Overlay::overlay, crate::specs::Overlay::laid))]
-    fn shown(&self, end: Option<u32>, number: u32) -> u32
+    pub(crate) fn shown(&self, end: Option<u32>, number: u32) -> u32
         requires number { number < 65536 }
         requires open { IfSome end (EndsOpen (area_at (W.words self.now.source.now) self.now.base)) }
         requires closed { IfNone end (open_ranges (area_at (W.words self.now.source.now) self.now.base) ≡ None) }

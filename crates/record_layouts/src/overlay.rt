@@ -12,7 +12,8 @@ pub fn gate<W: WordSource>(source: &W, base: u32) -> Gate
     requires { base + 64 ≤ 2 ^ 32 }
     ensures { result ≡ gate_of (area_at (W.words source.now) base) }
 {
-    Area { source, base }.gate()
+    let area = Area { source, base };
+    area.gate(area.open_end())
 }
 
 /// A word of the area that begins at frame `base`, with the ranges of a valid open intent laid over the area, the last
@@ -24,7 +25,8 @@ pub fn overlaid<W: WordSource>(source: &W, base: u32, frame: u32, word: u32) -> 
     requires word { word < 1024 }
     ensures { result ≡ overlay (area_at (W.words source.now) base) (1024 * frame + word) }
 {
-    Area { source, base }.overlaid(FRAME_WORDS * frame + word)
+    let area = Area { source, base };
+    area.shown(area.open_end(), FRAME_WORDS * frame + word)
 }
 
 /// The number of the word behind the payload of the open intent of the area that begins at frame `base`. `None` comes

@@ -9,6 +9,7 @@ pub mod Pids
 pub mod Frames
 pub mod Telling
 pub mod Whole
+pub mod Outside
 pub mod Paged
 pub mod RebuiltPages
 pub mod Unhurt

@@ -3,8 +3,7 @@ ghost use Rattle.std.specs.Prelude.{◌≡◌, ◌≤◌, ℕ, List, Option, Som
 ghost use Rattle.ow_base.specs.Images.{Image};
 ghost use Rattle.ow_base.specs.Sv32.{WordMap};
 ghost use Rattle.ow_plant.specs.Dead.{DeadState};
-ghost use Rattle.panic_handover.specs.declared.hand_over.HandOver.{HandOver};
-ghost use Rattle.dead_reader.specs.Left.{records_left, told_by};
+ghost use Rattle.dead_reader.specs.Left.{handed_of, records_left};
 ghost use Rattle.kernel_builder.specs.Sets.{IsBuilt};
 ghost use Rattle.record_layouts.specs.declared.memory_map.MemoryMap.{MemoryMap};
 ghost use Rattle.record_layouts.specs.Decode.{InKernel, unix_of};
@@ -34,18 +33,18 @@ pub const fn revived_kernels_are_of_abort()
         → IsSoundAtPanic i most trap → IsRevived (records_of_image i) (Some h) counts i.words next next_words
         → unix_of next next_words (tapes_put (records_of_image i) i.tapes) InKernel steps traps
         ≡ abort (unix_left i h steps traps) (no_wounds (unix_left i h steps traps)) }
-    ensures built { (dead : DeadState) (words : WordMap) (tapes : ℕ → List ℕ) (h : HandOver) → dead.handover ≡ Some h
+    ensures built { (dead : DeadState) (words : WordMap) (tapes : ℕ → List ℕ) (h : HandedOver) → handed_of dead.handover ≡ Some h
         → (most trap steps traps : ℕ) → IsSoundAtPanic (image_left dead words tapes) most trap
         → (map : MemoryMap) (old new : WordMap) → map.user_frames ≤ 384 → map.user_frames ≡ dead.user_frames
         → IsBuilt map (plan_of dead words) old new
         → unix_of (records_of map new) new (tapes_put (records_left dead words) tapes) InKernel steps traps
-        ≡ abort (unix_left (image_left dead words tapes) (told_by h) steps traps) (no_wounds (unix_left (image_left dead words tapes) (told_by h) steps traps)) }
+        ≡ abort (unix_left (image_left dead words tapes) h steps traps) (no_wounds (unix_left (image_left dead words tapes) h steps traps)) }
 {}
 
 /// The fates that are told then are those of Abort, in the order of the pids. There are no more than sixteen.
 pub const fn told_fates_are_of_abort()
-    ensures { (dead : DeadState) (words : WordMap) (tapes : ℕ → List ℕ) (h : HandOver) → dead.handover ≡ Some h
+    ensures { (dead : DeadState) (words : WordMap) (tapes : ℕ → List ℕ) (h : HandedOver) → handed_of dead.handover ≡ Some h
         → (most trap steps traps : ℕ) → IsSoundAtPanic (image_left dead words tapes) most trap
         → fates_left dead words
-        ≡ fates (unix_left (image_left dead words tapes) (told_by h) steps traps) (no_wounds (unix_left (image_left dead words tapes) (told_by h) steps traps)) }
+        ≡ fates (unix_left (image_left dead words tapes) h steps traps) (no_wounds (unix_left (image_left dead words tapes) h steps traps)) }
 {}

@@ -17,15 +17,12 @@ ghost use Rattle.resurrector.specs.Survivors.{AreOutcomes, IsSurvivor, fate_of, 
 use crate::survivors::Outcome;
 use dead_reader::{HandOver, RecordView};
 use kernel_builder::{blank_row, free_process, no_signals, unused_description};
-use record_layouts::{DescRec, ExitRec, Fate, HeadRec, ProcRec, RowRec, SigRec, TermRec};
+use record_layouts::{
+    DescRec, ExitRec, Fate, HeadRec, PIDS_END, ProcRec, ROWS, RowRec, SLOTS, SigRec, TermRec,
+};
 
-// How many processes there can be, and the end of their pids.
-const SLOTS: u32 = 16;
-
-const PIDS: u32 = 256;
-
-// The rows of a terminal.
-const ROWS: u32 = 24;
+// How many pids there are.
+const PIDS: u32 = PIDS_END - 1;
 
 // The state of a process that has ended.
 const ENDED: u32 = 3;

@@ -13,11 +13,11 @@ use arrayvec::ArrayVec;
 use dead_reader::{DeadMemory, DeadView, RecordView};
 use kernel_builder::build_kernel;
 use ow_base::Panicked;
-use record_layouts::{Fate, MemoryMap};
+use record_layouts::{Fate, MemoryMap, PIDS_END};
 use word_store::WordStore;
 
 // The greatest pid.
-const PIDS: u32 = 256;
+const PIDS: u32 = PIDS_END - 1;
 
 /// What became of the processes that were live when a kernel panicked.
 #[derive(Debug, Drop)]

@@ -11,16 +11,13 @@ use crate::left::Left;
 use dead_reader::RecordView;
 use frame_table::{frame_of_page, region};
 use kernel_builder::{Blueprint, Holder, Placed, empty_entry, unused_file};
-use record_layouts::{AnyRec, RecordId};
+use record_layouts::{AnyRec, RecordId, SLOTS};
 
 // The end of the pages that a process can have.
 const PAGES_END: u32 = 0x8_0000;
 
 // One slot more counts so much in the word that names an owner.
 const SLOT_UNIT: u32 = 1 << 20;
-
-// How many processes there can be.
-const SLOTS: u32 = 16;
 
 impl<V: RecordView> Left<'_, V> {
     // The record with this id.

@@ -11,10 +11,7 @@ ghost use Rattle.resurrector.specs.Survivors.{AreOutcomes, IsSurvivor, fate_in, 
 
 use crate::procedures::revive;
 use dead_reader::{DeadMemory, DeadProc, DeadView, RecordView};
-use record_layouts::{DescRec, Fate, ProcRec};
-
-// How many processes there can be.
-const SLOTS: u32 = 16;
+use record_layouts::{DescRec, Fate, ProcRec, SLOTS};
 
 // What a description is open on: a file.
 const FILE: u32 = 1;
