@@ -21,4 +21,6 @@ pub mod RebuiltProcesses
 pub mod RebuiltDescriptions
 pub mod RebuiltUnix
 pub mod ToldFates
+pub mod FewFates
 pub mod Built
+pub mod LeftRevivals

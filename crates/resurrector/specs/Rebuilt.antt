@@ -1,6 +1,8 @@
 -- What is read of a kernel that was built after a panic, and what its terminals have written once the bytes in flight are put.
 use Rattle.std.specs.Prelude.{◌≡◌, ℕ, ◌+◌, ◌<◌, true, false, List, Option, Some, None, is_some}
+use Rattle.ow_base.specs.Images.{Image}
 use Rattle.ow_base.specs.Sv32.{WordMap}
+use Rattle.ow_plant.specs.Dead.{DeadState}
 use Rattle.record_layouts.specs.declared.places.RecordId.{RecordId}
 use Rattle.record_layouts.specs.At.{at, fitted}
 use Rattle.record_layouts.specs.Decode.{terminal_by}
@@ -26,3 +28,7 @@ pub record IsRevived (r : Records) (handed : Option HandedOver) (counts : List �
 -- the tapes of the devices, with the byte in flight where a terminal counts one
 abbrev pub tapes_put : Records → (tapes : ℕ → List ℕ) → (tty : ℕ) → List ℕ
 tapes_put r tapes tty = (terminal_by (tapes tty) (r.terms tty)).tape
+
+-- the image that is left, with the tapes of the devices
+abbrev pub image_left : DeadState → WordMap → (tapes : ℕ → List ℕ) → Image
+image_left dead words tapes = record { words = words; area = dead.area; user_frames = dead.user_frames; sectors = dead.sectors; tapes = tapes }

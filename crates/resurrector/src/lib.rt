@@ -9,7 +9,9 @@ mod resurrecting;
 mod revived;
 mod survivors;
 
-pub use abort_laws::{built_kernels_are_revived, revived_kernels_are_of_abort, told_fates_are_of_abort};
+pub use abort_laws::{
+    built_kernels_are_revived, revived_kernels_are_of_abort, told_fates_are_of_abort,
+};
 pub use laws::{revived_processes_are_outside, revived_records_decode};
 pub use procedures::revive;
 pub use record_layouts::Fate;

@@ -1,5 +1,5 @@
-use Rattle.resurrector.proofs.ToldFates.{fates_same}
+use Rattle.resurrector.proofs.LeftRevivals.{told_fates}
 use Rattle.resurrector.proofs.abort_laws.told_fates_are_of_abort.Goals as goal
 
 pub returns : goal.returns
-returns c = λ i h most trap steps traps is. fates_same i most trap is h steps traps
+returns c = told_fates
