@@ -27,3 +27,4 @@ pub mod SoundPids
 pub mod SoundDescriptors
 pub mod SoundTables
 pub mod SoundScreens
+pub mod SoundRevived

@@ -7,10 +7,14 @@ mod left;
 mod procedures;
 mod resurrecting;
 mod revived;
+mod sound_laws;
 mod survivors;
 
-pub use abort_laws::{built_kernels_are_revived, revived_kernels_are_of_abort, told_fates_are_of_abort};
+pub use abort_laws::{
+    built_kernels_are_revived, revived_kernels_are_of_abort, told_fates_are_of_abort,
+};
 pub use laws::{revived_processes_are_outside, revived_records_decode};
 pub use procedures::revive;
 pub use record_layouts::Fate;
 pub use resurrecting::{Revival, resurrect_into};
+pub use sound_laws::revived_images_are_sound;
