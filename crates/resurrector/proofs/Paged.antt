@@ -38,9 +38,9 @@ unfolding is_mapped
 paged_mapped r slot one other same =
     let regions : (page : ℕ) → region_of one page ≡ region_of other page = λ page. paged_regions one other same page in
     let pages : one.code_pages + (one.data_pages + heap_pages one) ≡ other.code_pages + (other.data_pages + heap_pages other) =
-        omega (arith, same.code_pages, same.data_pages, same.brk) in
+    omega (arith, same.code_pages, same.data_pages, same.brk) in
     let low : have_frames r slot one 16 (one.code_pages + (one.data_pages + heap_pages one)) ≡ have_frames r slot other 16 (other.code_pages + (other.data_pages + heap_pages other)) =
-        ap (λ (n : ℕ). have_frames r slot one 16 n) pages ∙ have_same r slot one other regions 16 (other.code_pages + (other.data_pages + heap_pages other)) in
+    ap (λ (n : ℕ). have_frames r slot one 16 n) pages ∙ have_same r slot one other regions 16 (other.code_pages + (other.data_pages + heap_pages other)) in
     let high : have_frames r slot one 0x7fffc 4 ≡ have_frames r slot other 0x7fffc 4 = have_same r slot one other regions 0x7fffc 4 in
     rw low (rw high refl)
 

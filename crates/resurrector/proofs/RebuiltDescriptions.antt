@@ -116,8 +116,8 @@ module _ (i : Image) (most broken : ℕ) (sound : IsSoundAtPanic i most broken) 
         let long : length descs ≡ 8 = eight i most broken sound slot (process i most broken sound h pid slot found) (held i most broken sound h pid slot found) in
         let own : (slice_index descs place.k == number + 1) ≡ true = rw place.is (grind (arith, nat_tests)) in
         let word : names_by (number + 1) (survivor_in r (Some h) slot) ≡ true =
-            rw (survivor_there i most broken sound h pid slot found, after_descs i most broken sound h pid slot found)
-            (any_found (λ k. slice_index descs k == number + 1) 0 8 8 place.k refl (omega arith) (omega (arith, place.within, long)) own) in
+        rw (survivor_there i most broken sound h pid slot found, after_descs i most broken sound h pid slot found)
+        (any_found (λ k. slice_index descs k == number + 1) 0 8 8 place.k refl (omega arith) (omega (arith, place.within, long)) own) in
         any_found (λ s. names_by (number + 1) (survivor_in r (Some h) s)) 0 16 16 slot refl (omega arith) (slot_low i most broken sound h pid slot found) word
     by_slot None none = absurd (cc (rw (none_survives i most broken sound h steps traps pid none) at named))
 
@@ -136,7 +136,7 @@ module _ (i : Image) (most broken : ℕ) (sound : IsSoundAtPanic i most broken) 
   unfolding in_use
   description_same number =
       let same : is_named earlier number 1 most_pids ≡ is_named later number 1 most_pids =
-          sym (named_same later earlier number (λ pid. named_as_before pid number) 1 most_pids) in
+      sym (named_same later earlier number (λ pid. named_as_before pid number) 1 most_pids) in
       elim (cases_Bool (is_named later number 1 most_pids)) [
         | inl named ↦ rw (same, named) (description_kept number named)
         | inr none ↦ rw none refl

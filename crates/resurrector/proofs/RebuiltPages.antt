@@ -191,8 +191,8 @@ module _ (r next : Records) (handed : Option HandedOver) (counts : List ℕ) (wo
   unfolding is_mapped
   mapped was =
       let ends : (have_frames r slot process 16 (process.code_pages + (process.data_pages + heap_pages process)) ≡ true) × (have_frames r slot process 0x7fffc 4 ≡ true) =
-          last_two (is_linked r slot 1 low_place) (is_linked r slot 2 high_place) (have_frames r slot process 16 (process.code_pages + (process.data_pages + heap_pages process)))
-          (have_frames r slot process 0x7fffc 4) was in
+      last_two (is_linked r slot 1 low_place) (is_linked r slot 2 high_place) (have_frames r slot process 16 (process.code_pages + (process.data_pages + heap_pages process)))
+      (have_frames r slot process 0x7fffc 4) was in
       rw (low_linked, high_linked, frames_moved 16 (process.code_pages + (process.data_pages + heap_pages process)), ends.0, frames_moved 0x7fffc 4, ends.1) refl
 
   byte_there : (page offset : ℕ) (o : Option ℕ) → frame_of r slot process page ≡ o → offset < 4096

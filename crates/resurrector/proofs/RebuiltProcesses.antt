@@ -113,8 +113,15 @@ module _ (i : Image) (most broken : ℕ) (sound : IsSoundAtPanic i most broken) 
       unfolding process_at
       now_there =
           let same : (pid == pid) ≡ true = grind (arith, nat_tests) in
-          rw (exit_same i most broken sound h counts next next_words is pid, found, pid_same i most broken sound h counts next next_words is slot,
-          pid_there i most broken sound pid slot found, same, process_there i most broken sound h counts next next_words is pid slot found, now_decodes) refl
+          rw (
+            exit_same i most broken sound h counts next next_words is pid,
+            found,
+            pid_same i most broken sound h counts next next_words is slot,
+            pid_there i most broken sound pid slot found,
+            same,
+            process_there i most broken sound h counts next next_words is pid slot found,
+            now_decodes,
+          ) refl
 
       as_before : process_of next next_words slot now ≡ carried_on (call_found (Some h) r.head (its pid slot found)) (left pid slot found)
       unfolding dead_proc

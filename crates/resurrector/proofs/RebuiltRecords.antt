@@ -109,7 +109,7 @@ module _ (i : Image) (steps broken : ℕ) (sound : IsSoundAtPanic i steps broken
   put_by tty (Some terminal) there = elim (cases_lt tty 2) [
     | inl low ↦
         let of_tape : IfSome (Some terminal) (λ t. IsOfTape r tty (tape_by (i.tapes tty) t) t) =
-            subst (λ (o : Option TermRec). IfSome o (λ t. IsOfTape r tty (tape_by (i.tapes tty) t) t)) there (sound.terminals.records tty low) in
+        subst (λ (o : Option TermRec). IfSome o (λ t. IsOfTape r tty (tape_by (i.tapes tty) t) t)) there (sound.terminals.records tty low) in
         let counted : terminal.written ≡ length (tape_by (i.tapes tty) terminal) = of_tape.counted in
         ap (λ (o : Option TermRec). terminal_by ((terminal_by (i.tapes tty) o).tape) (Some terminal)) there
         ∙ ap (λ (tape : List ℕ). record { tape = tape; base = terminal.base; consumed = terminal.consumed }) (tape_stays (i.tapes tty) terminal counted)

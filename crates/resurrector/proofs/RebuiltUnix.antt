@@ -114,10 +114,12 @@ module _ (i : Image) (most broken : ℕ) (sound : IsSoundAtPanic i most broken) 
         both : (b : Bool) → b ≡ (b && true)
         both true = refl
         both false = refl
+
         neither : (b : Bool) → false ≡ (b && false)
         neither true = refl
         neither false = refl
     kept None = refl
+
     by_pid : (o : Option ℕ) → pid_in r slot ≡ o → is_ended_as pid (next.procs slot) ≡ (is_ended_as pid (r.procs slot) && has_parent (r.procs slot))
     by_pid (Some its) live =
         let found = pid_is i most broken sound h slot its live in
@@ -170,17 +172,17 @@ module _ (i : Image) (most broken : ℕ) (sound : IsSoundAtPanic i most broken) 
         let before : is_some (earlier one.parent) ≡ true = sym (goes_on_same one.parent) ∙ goes in
         let after : is_some (later one.parent) ≡ true = all_survive i most broken sound h steps traps one.parent ∙ before in
         let found : least_from (λ k. is_ended_as pid (next.procs k)) 0 16 ≡ Some slot =
-            least_found (λ k. is_ended_as pid (next.procs k)) 0 16 16 slot refl (record {
-              from = omega arith;
-              to = low;
-              passes = ended_test pid slot low ∙ rw (at_slot, there, goes) refl;
-              below = record {
-                none = λ k from to. elim (cases_Bool (is_ended_as pid (r.procs k))) [
-                  | inl also ↦ absurd (omega (arith, elsewhere k also, to))
-                  | inr other ↦ ended_test pid k (omega (arith, to, low)) ∙ rw other refl
-                ];
-              };
-            }) in
+        least_found (λ k. is_ended_as pid (next.procs k)) 0 16 16 slot refl (record {
+          from = omega arith;
+          to = low;
+          passes = ended_test pid slot low ∙ rw (at_slot, there, goes) refl;
+          below = record {
+            none = λ k from to. elim (cases_Bool (is_ended_as pid (r.procs k))) [
+              | inl also ↦ absurd (omega (arith, elsewhere k also, to))
+              | inr other ↦ ended_test pid k (omega (arith, to, low)) ∙ rw other refl
+            ];
+          };
+        }) in
         let state : (one.state == 3) ≡ true = grind (arith, nat_tests, over) in
         let kept : ended_or_free r (Some h) (Some one) ≡ one = rw (state, goes) refl in
         rw (found, ended_record slot one low there over, kept, before, after) refl
@@ -190,12 +192,12 @@ module _ (i : Image) (most broken : ℕ) (sound : IsSoundAtPanic i most broken) 
     lost_child lost =
         let before : is_some (earlier one.parent) ≡ false = sym (goes_on_same one.parent) ∙ lost in
         let nothing : least_from (λ k. is_ended_as pid (next.procs k)) 0 16 ≡ None =
-            least_none (λ k. is_ended_as pid (next.procs k)) 0 16 16 refl (record {
-              none = λ k from to. elim (cases_Bool (is_ended_as pid (r.procs k))) [
-                | inl also ↦ ended_test pid k to ∙ rw (elsewhere k also, at_slot, there, lost) refl
-                | inr other ↦ ended_test pid k to ∙ rw other refl
-              ];
-            }) in
+        least_none (λ k. is_ended_as pid (next.procs k)) 0 16 16 refl (record {
+          none = λ k from to. elim (cases_Bool (is_ended_as pid (r.procs k))) [
+            | inl also ↦ ended_test pid k to ∙ rw (elsewhere k also, at_slot, there, lost) refl
+            | inr other ↦ ended_test pid k to ∙ rw other refl
+          ];
+        }) in
         rw (nothing, before) refl
 
   -- the ended children

@@ -236,4 +236,3 @@ module _ (i : Image) (steps broken : ℕ) (is : IsSoundAtPanic i steps broken) w
       pub fate_there : fate_in r (Some h) slot ≡ fate_with dead 0
       unfolding fate_in
       fate_there = rw (left_is, lost_by) refl
-
