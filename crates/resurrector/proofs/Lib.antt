@@ -1,7 +1,7 @@
 -- Lemmas of the resurrector: a process that goes on can be spelled, descriptors that are closed, what became of slots, the
 -- next pid, frames of pages, the fates that are told, and the records that decode; and, where the panic damaged nothing, that
 -- what is built stands for the state that Abort leaves: first for a process and its record alone, then for pages, records,
--- processes, descriptions and the whole.
+-- processes, descriptions and the whole; and that it is sound: slots, pids, descriptors, tables, terminals and the whole.
 pub mod Reviving
 pub mod Descriptors
 pub mod Outcomes
@@ -24,3 +24,9 @@ pub mod ToldFates
 pub mod FewFates
 pub mod Built
 pub mod LeftRevivals
+pub mod SoundSlots
+pub mod SoundPids
+pub mod SoundDescriptors
+pub mod SoundTables
+pub mod SoundScreens
+pub mod SoundRevived

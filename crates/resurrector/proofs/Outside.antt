@@ -54,7 +54,7 @@ over_if : (test : Bool) (process : ProcRec) → (test ≡ true → process.state
 over_if true process ended = let over = ended refl in rw over refl
 over_if false process ended = refl
 
-none_live : (r : Records) (handed : Option HandedOver) (process : Option ProcRec) → is_live (ended_or_free r handed process) ≡ false
+pub none_live : (r : Records) (handed : Option HandedOver) (process : Option ProcRec) → is_live (ended_or_free r handed process) ≡ false
 none_live r handed (Some process) = over_if (process.state == 3 && goes_on r handed process.parent) process (λ e. grind (arith, nat_tests, e))
 none_live r handed None = refl
 

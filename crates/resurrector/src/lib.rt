@@ -7,6 +7,7 @@ mod left;
 mod procedures;
 mod resurrecting;
 mod revived;
+mod sound_laws;
 mod survivors;
 
 pub use abort_laws::{
@@ -16,3 +17,4 @@ pub use laws::{revived_processes_are_outside, revived_records_decode};
 pub use procedures::revive;
 pub use record_layouts::Fate;
 pub use resurrecting::{Revival, resurrect_into};
+pub use sound_laws::revived_images_are_sound;
