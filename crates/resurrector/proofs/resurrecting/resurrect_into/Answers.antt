@@ -1,10 +1,11 @@
-use Rattle.std.proofs.Common.{sym, ◌∙◌}
+use Rattle.std.proofs.Common.{ap, sym, ◌∙◌}
 use Rattle.record_layouts.specs.Halves.{half_map}
 use Rattle.resurrector.proofs.Outcomes.{same_frames}
 use Rattle.resurrector.proofs.resurrecting.resurrect_into.Goals as goal
 
 pub build_kernel-requires-clause-frames : goal.build_kernel-requires-clause-frames
 build_kernel-requires-clause-frames g c =
-    let dead = g.M.DeadMemory.dead c.args.dead.now in
-    rw c.new-view.ensures
-    (same_frames (half_map dead.area dead.user_frames dead.sectors) (g.M.WordSource.words c.args.dead.now) ∙ sym c.requires.frames)
+    let left = g.M.DeadMemory.dead c.new-view.result.memory.now in
+    same_frames (half_map left.area left.user_frames left.sectors) (g.M.WordSource.words c.new-view.result.memory.now)
+    ∙ ap (λ memory. (g.M.DeadMemory.dead memory).user_frames) c.new-view.ensures
+    ∙ sym c.requires.frames
