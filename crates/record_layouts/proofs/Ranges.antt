@@ -6,7 +6,7 @@ use Rattle.std.proofs.lemmas.Bool.{cases_lt, cases_Bool, false≢true}
 use Rattle.std.proofs.lemmas.Bool.Decides.{nat_tests}
 use Rattle.ow_base.specs.Seals.{seal_from}
 use Rattle.record_layouts.specs.declared.intent.Change.{Change}
-use Rattle.record_layouts.specs.Overlay.{Area, words_from, WordRange, is_range, before, begin_of, end_of, lies_in, laid, or_none, ranges_of, ranges_in, range_at, StandsFirst, values_end}
+use Rattle.record_layouts.specs.Overlay.{Area, words_from, WordRange, is_range, before, begin_of, end_of, lies_in, laid, or_none, ranges_of, ranges_in, range_at, StandsFirst, values_end, EndsOpen, overlay}
 
 pub length-words_from : (area : Area) (first count : ℕ) → length (words_from area first count) ≡ count
 unfolding words_from
@@ -202,3 +202,9 @@ module _ (area : Area) (place end : ℕ) where
         → laid (or_none (ranges_in (words_from area place (end - place)))) number word ≡ whole
         → laid (or_none (ranges_in (words_from area (values_end change) (end - values_end change)))) number new ≡ whole
     laid-rest number word new whole becomes all = rw becomes (sym (laid-first number word) ∙ all)
+
+-- the open intent makes of the area's word what the overlay has there
+pub overlay-open : (area : Area) (end : ℕ) → EndsOpen area end → (number word : ℕ) → word ≡ area number
+    → laid (or_none (ranges_in (words_from area 17 (end - 17)))) number word ≡ overlay area number
+unfolding overlay
+overlay-open area end ends number word own = rw (own, ends.ranges) refl

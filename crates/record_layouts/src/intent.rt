@@ -3,7 +3,7 @@
 //! An intent changes words of several records at once. Its payload is a list of ranges: of each the frame and the place
 //! of its first word, how many words there are, and what they become. The gate tells how many words of payload there
 //! are; the block's last word is the seal of the gate and of these.
-ghost use Rattle.std.specs.Prelude.{◌≡◌, ℕ, ◌+◌, ◌-◌, ◌*◌, ◌^◌, ◌<◌, ◌≤◌, true, IfSome, IfNone, None, is_some, length};
+ghost use Rattle.std.specs.Prelude.{◌≡◌, ℕ, ◌+◌, ◌-◌, ◌*◌, ◌^◌, ◌<◌, ◌≤◌, true, IfSome, IfNone, None, is_some, length, slice_index, if◌then◌else◌};
 ghost use Rattle.record_layouts.specs.Overlay.{EndsOpen, StandsFirst, area_at, gate_of, intent_seal, is_within, laid, lies_in, may_change, open_ranges, or_none, overlay, ranges_in, values_end, words_from};
 
 use crate::layout::AREA_FRAMES;
@@ -166,8 +166,30 @@ impl<W: WordSource> Area<'_, W> {
         requires open { EndsOpen (area_at (W.words self.now.source.now) self.now.base) end }
         ensures { words.new ≡ words_from (overlay (area_at (W.words self.now.source.now) self.now.base)) first (length words.old) }
     {
-        for (k, word) in words.iter_mut().enumerate() {
-            *word = self.shown(Some(end), first + k as u32);
+        self.read_own(first, words);
+        let mut place = PAYLOAD;
+        while let Some(change) = self.change(place, end) {
+            self.lay(change, first, words);
+            place = change.values_end();
+        }
+    }
+
+    // Puts the new values of a change into `words`, which stand for those from the number `first` on, as far as they are
+    // among these.
+    fn lay(&self, change: Change, first: u32, words: &mut [u32])
+        requires room { first + length words.old ≤ 65536 }
+        requires order { change.span.begin ≤ change.span.end }
+        requires values { change.values + (change.span.end - change.span.begin) ≤ 1023 }
+        ensures long { length words.new ≡ length words.old }
+        ensures each { (j : ℕ) → j < length words.old → slice_index words.new j
+            ≡ (if lies_in change.span.begin change.span.end (first + j) then area_at (W.words self.now.source.now) self.now.base (change.values + ((first + j) - change.span.begin)) else slice_index words.old j) }
+    {
+        let begin = first.max(change.span.begin);
+        let end = (first + words.len() as u32).min(change.span.end);
+        for number in begin..end {
+            words[(number - first) as usize] = self.word(
+                change.values + (number - change.span.begin),
+            );
         }
     }
 

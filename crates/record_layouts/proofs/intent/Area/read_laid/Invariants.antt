@@ -1,9 +1,19 @@
-use Rattle.std.proofs.Common.{◌≡◌, ℕ, ◌+◌, ◌<◌, get_or}
-use Rattle.record_layouts.specs.Overlay.{area_at, overlay}
+use Rattle.std.proofs.Common.{◌≡◌, ℕ, ◌+◌, ◌-◌, ◌<◌, ◌≤◌, is_some, length, slice_index, true}
+use Rattle.record_layouts.specs.Overlay.{area_at, laid, or_none, overlay, ranges_in, words_from}
 use Rattle.record_layouts.proofs.intent.Area.read_laid.Given as goal
 
--- the words so far are those of the area with the intent laid over it
-abbrev pub invariant-loop-k : goal.invariant-loop-k
-invariant-loop-k g l =
+-- what is left of the ranges makes of each word so far what all of them make of the area's
+abbrev pub invariant-loop-change : goal.invariant-loop-change
+invariant-loop-change g l =
     let area = area_at (g.W.WordSource.words l.self.source.now) l.self.base in
-    (j : ℕ) → j < l.k → get_or l.words j 0 ≡ overlay area (l.first + j)
+    record {
+      begun : 17 ≤ l.place;
+      inside : l.place ≤ l.end;
+      ranges : is_some (ranges_in (words_from area l.place (l.end - l.place))) ≡ true;
+      long : length l.words ≡ length l.fn.words;
+      same : (j : ℕ) → j < length l.words → laid (or_none (ranges_in (words_from area l.place (l.end - l.place)))) (l.first + j) (slice_index l.words j)
+          ≡ overlay area (l.first + j);
+    }
+
+abbrev pub decreases-loop-change : goal.decreases-loop-change
+decreases-loop-change g l = l.end - l.place
