@@ -7,3 +7,4 @@ pub mod Pids
 pub mod Frames
 pub mod Telling
 pub mod Whole
+pub mod Loans

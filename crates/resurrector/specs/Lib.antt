@@ -2,3 +2,4 @@
 pub mod Procedures
 pub mod Survivors
 pub mod Revived
+pub mod Plants

@@ -3,12 +3,14 @@
 
 mod laws;
 mod left;
+mod plants;
 mod procedures;
 mod resurrecting;
 mod revived;
 mod survivors;
 
 pub use laws::revived_records_decode;
+pub use plants::resurrect;
 pub use procedures::revive;
 pub use record_layouts::Fate;
 pub use resurrecting::{Revival, resurrect_into};
