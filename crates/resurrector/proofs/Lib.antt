@@ -30,3 +30,4 @@ pub mod SoundDescriptors
 pub mod SoundTables
 pub mod SoundScreens
 pub mod SoundRevived
+pub mod Loans

@@ -4,3 +4,4 @@ pub mod Survivors
 pub mod Revived
 pub mod Rebuilt
 pub mod RevivedImages
+pub mod Plants

@@ -4,6 +4,7 @@
 mod abort_laws;
 mod laws;
 mod left;
+mod plants;
 mod procedures;
 mod resurrecting;
 mod revived;
@@ -14,6 +15,7 @@ pub use abort_laws::{
     built_kernels_are_revived, revived_kernels_are_of_abort, told_fates_are_of_abort,
 };
 pub use laws::{revived_processes_are_outside, revived_records_decode};
+pub use plants::resurrect;
 pub use procedures::revive;
 pub use record_layouts::Fate;
 pub use resurrecting::{Revival, resurrect_into};

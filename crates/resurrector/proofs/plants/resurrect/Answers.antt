@@ -1,0 +1,34 @@
+use Rattle.std.proofs.Common.{rules, ◌≡◌, ◌∙◌, ap}
+use Rattle.phys_memory.specs.Halves.{first_own, words_from}
+use Rattle.ow_plant.specs.Lent.{LentState}
+use Rattle.ow_plant.specs.Owning.{own_words}
+use Rattle.ow_plant.specs.declared.own_half.OwnPlace.{OwnPlace}
+use Rattle.word_store.proofs.Outcomes.{on_ok}
+use Rattle.resurrector.proofs.Loans.{built_again, dead_stays, read_again, words_after}
+use Rattle.resurrector.proofs.plants.resurrect.Goals as goal
+
+pub returns-clause-built : goal.returns-clause-built
+returns-clause-built c =
+    let s = c.args.plant.now in
+    let own = c.resurrection-own.result.1 in
+    let after = c.resurrect_lent-revival.new.own in
+    let first : after.place.first ≡ first_own s.memory s.live = ap (λ (place : OwnPlace). place.first) c.resurrect_lent-revival.ensures.place ∙ c.resurrection-own.ensures.place.first in
+    on_ok c.resurrect_lent-revival.result _ _
+    (built_again _ _ _ _ (own_words after) _ c.resurrection-own.ensures.left c.resurrection-own.ensures.dead_words (own_words own) _
+    (ap (λ n. words_from n own.lent.now.own) c.resurrection-own.ensures.place.first ∙ ap (λ (lent : LentState). words_from (first_own s.memory s.live) lent.own) c.resurrection-own.ensures.own)
+    (words_after s.memory s.live _ after.lent.now.own after.place.first first (search rules)))
+    c.resurrect_lent-revival.ensures.built
+
+pub returns-clause-read : goal.returns-clause-read
+returns-clause-read c =
+    let s = c.args.plant.now in
+    let after = c.resurrect_lent-revival.new.own in
+    let first : after.place.first ≡ first_own s.memory s.live = ap (λ (place : OwnPlace). place.first) c.resurrect_lent-revival.ensures.place ∙ c.resurrection-own.ensures.place.first in
+    on_ok c.resurrect_lent-revival.result _ _
+    (read_again _ _ _ _ (own_words after) _ c.resurrection-own.ensures.left c.resurrection-own.ensures.dead_words
+    (words_after s.memory s.live _ after.lent.now.own after.place.first first (search rules)))
+    c.resurrect_lent-revival.ensures.read
+
+pub returns-clause-dead : goal.returns-clause-dead
+returns-clause-dead c =
+    dead_stays c.args.plant.now c.resurrection-own.result.1.lent.now _ c.resurrect_lent-revival.new.own.lent.now.own c.requires.armed c.resurrection-own.ensures.own c.resurrect_lent-revival.ensures.size (search rules)
