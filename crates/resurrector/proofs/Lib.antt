@@ -8,3 +8,4 @@ pub mod Frames
 pub mod Telling
 pub mod Whole
 pub mod Loans
+pub mod Painted

@@ -3,3 +3,4 @@ pub mod Procedures
 pub mod Survivors
 pub mod Revived
 pub mod Plants
+pub mod Painting

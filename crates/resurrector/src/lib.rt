@@ -3,6 +3,7 @@
 
 mod laws;
 mod left;
+mod painting;
 mod plants;
 mod procedures;
 mod resurrecting;
