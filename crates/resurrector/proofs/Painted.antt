@@ -20,7 +20,7 @@ use Rattle.record_layouts.specs.Terminals.{ShowsScreen, cursor_col, cursor_row, 
 use Rattle.ow_plant.specs.Lent.{LentState, lent_counted, lent_cursor_at, lent_refused, lent_tty, with_tty}
 use Rattle.ow_plant.specs.State.{Device, with_cursor}
 use Rattle.ow_plant.specs.declared.refusal.Refusal.{Refusal}
-use Rattle.resurrector.specs.Painting.{ChangesDisplay, ShowsRows}
+use Rattle.resurrector.specs.Painting.{ChangesDisplay, ChangesDisplays, ShowsRows}
 
 text_there : (row : Option RowRec) → is_some row ≡ true → is_some (text_of row) ≡ true
 text_there (Some row) is = refl
@@ -138,3 +138,31 @@ cursor_shows r tty old new terminal there row col is rows =
     let put : lent_tty new tty ≡ with_cursor (lent_tty old tty) terminal.row terminal.col =
         ap (λ (l : LentState). lent_tty l tty) is ∙ put_there (lent_counted old) tty (with_cursor (lent_tty old tty) terminal.row terminal.col) in
     subst (λ (d : Device). ShowsScreen r tty d.display) (sym put) (shows_screen r tty (lent_tty old tty) terminal there row col rows)
+
+pub first_display : (a b : LentState) → ChangesDisplay 0 a b → ChangesDisplays a b
+first_display a b first = record {
+  own = first.own;
+  budget = first.budget;
+  tape0 = first.tape;
+  room0 = first.room;
+  tape1 = ap (λ (d : Device). d.tape) (first.other 1 (omega arith) (λ e. absurd (omega (arith, e))));
+  room1 = ap (λ (d : Device). d.room) (first.other 1 (omega arith) (λ e. absurd (omega (arith, e))));
+}
+
+pub both_displays : (a b c : LentState) → ChangesDisplay 0 a b → ChangesDisplay 1 b c → ChangesDisplays a c
+both_displays a b c first later = record {
+  own = later.own ∙ first.own;
+  budget = later.budget ∙ first.budget;
+  tape0 = ap (λ (d : Device). d.tape) (later.other 0 (omega arith) (λ e. absurd (omega (arith, e)))) ∙ first.tape;
+  room0 = ap (λ (d : Device). d.room) (later.other 0 (omega arith) (λ e. absurd (omega (arith, e)))) ∙ first.room;
+  tape1 = later.tape ∙ ap (λ (d : Device). d.tape) (first.other 1 (omega arith) (λ e. absurd (omega (arith, e))));
+  room1 = later.room ∙ ap (λ (d : Device). d.room) (first.other 1 (omega arith) (λ e. absurd (omega (arith, e))));
+}
+
+-- what is seen of terminal 0 is as it was
+pub stays_seen : (b c : LentState) → ChangesDisplay 1 b c → c.tty0.display ≡ b.tty0.display
+stays_seen b c later = ap (λ (d : Device). d.display) (later.other 0 (omega arith) (λ e. absurd (omega (arith, e))))
+
+-- and terminal 1 has the rows that it had
+pub stays_long : (a b : LentState) → ChangesDisplay 0 a b → length a.tty1.display.rows ≡ 24 → length b.tty1.display.rows ≡ 24
+stays_long a b first long = ap (λ (d : Device). length d.display.rows) (first.other 1 (omega arith) (λ e. absurd (omega (arith, e)))) ∙ long

@@ -17,3 +17,12 @@ pub record ChangesDisplay (tty : ℕ) (old new : LentState) : Type 0 where
   pub tape : (lent_tty new tty).tape ≡ (lent_tty old tty).tape
   pub room : (lent_tty new tty).room ≡ (lent_tty old tty).room
   pub other : (n : ℕ) → n < 2 → n ≢ tty → lent_tty new n ≡ lent_tty old n
+
+-- only what is seen of the two terminals has changed, and the counts of stores and the refusal
+pub record ChangesDisplays (old new : LentState) : Type 0 where
+  pub own : new.own ≡ old.own
+  pub budget : new.budget ≡ old.budget
+  pub tape0 : new.tty0.tape ≡ old.tty0.tape
+  pub room0 : new.tty0.room ≡ old.tty0.room
+  pub tape1 : new.tty1.tape ≡ old.tty1.tape
+  pub room1 : new.tty1.room ≡ old.tty1.room

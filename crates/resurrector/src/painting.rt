@@ -6,7 +6,7 @@ ghost use Rattle.ow_plant.specs.Owning.{own_words};
 ghost use Rattle.ow_plant.specs.Points.{is_in};
 ghost use Rattle.record_layouts.specs.Reading.{FitsMap, records_of};
 ghost use Rattle.record_layouts.specs.Terminals.{ShowsScreen, TerminalDecodes};
-ghost use Rattle.resurrector.specs.Painting.{ChangesDisplay, ShowsRows};
+ghost use Rattle.resurrector.specs.Painting.{ChangesDisplay, ChangesDisplays, ShowsRows};
 
 use ow_base::Panicked;
 use ow_plant::Own;
@@ -70,9 +70,8 @@ fn paint_rows(own: &mut Own<'_>, map: &MemoryMap, tty: u32) -> Result<(), Panick
     Ok(())
 }
 
-/// Paints the display of a terminal, 0 or 1, as the records of the own half have it: its rows and then its cursor. They
-/// decode. `Panicked` comes where a store is refused.
-pub(crate) fn paint_terminal(own: &mut Own<'_>, map: &MemoryMap, tty: u32) -> Result<(), Panicked>
+// Paints the display of a terminal, 0 or 1, as the records of the own half have it: its rows and then its cursor.
+fn paint_terminal(own: &mut Own<'_>, map: &MemoryMap, tty: u32) -> Result<(), Panicked>
     requires tty { tty < 2 }
     requires fits { FitsMap map.now }
     requires decodes { TerminalDecodes (records_of map.now (own_words own.old)) tty }
@@ -87,4 +86,27 @@ pub(crate) fn paint_terminal(own: &mut Own<'_>, map: &MemoryMap, tty: u32) -> Re
 {
     paint_rows(own, map, tty)?;
     set_cursor(own, map, tty)
+}
+
+/// Paints the displays of both terminals as the records of the own half have them, which must decode. `Panicked` comes where
+/// a store is refused.
+#[tactic(auto, using(crate::proofs::Painted::both_displays))]
+pub(crate) fn paint_terminals(own: &mut Own<'_>, map: &MemoryMap) -> Result<(), Panicked>
+    requires fits { FitsMap map.now }
+    requires decodes0 { TerminalDecodes (records_of map.now (own_words own.old)) 0 }
+    requires decodes1 { TerminalDecodes (records_of map.now (own_words own.old)) 1 }
+    requires able { own.old.lent.now.refusal ≡ None }
+    requires long0 { length own.old.lent.now.tty0.display.rows ≡ 24 }
+    requires long1 { length own.old.lent.now.tty1.display.rows ≡ 24 }
+    ensures shown0 { OnOk result (ShowsScreen (records_of map.now (own_words own.old)) 0 own.new.lent.now.tty0.display) }
+    ensures shown1 { OnOk result (ShowsScreen (records_of map.now (own_words own.old)) 1 own.new.lent.now.tty1.display) }
+    ensures words { own_words own.new ≡ own_words own.old }
+    ensures only { ChangesDisplays own.old.lent.now own.new.lent.now }
+    ensures stays { OnOk result (own.new.lent.now.refusal ≡ None) }
+    ensures allowed { OnErr result (list_any (is_in own.old.place.trap) own.old.place.points.now ≡ true) }
+    ensures place { own.new.place ≡ own.old.place }
+    ensures same_reference { own.new.lent.ghost_name ≡ own.old.lent.ghost_name }
+{
+    paint_terminal(own, map, 0)?;
+    paint_terminal(own, map, 1)
 }
