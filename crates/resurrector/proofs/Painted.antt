@@ -136,7 +136,7 @@ pub cursor_shows : (r : Records) (tty : ℕ) (old new : LentState) (terminal : T
     → ShowsRows r tty 24 (lent_tty old tty).display.rows → ShowsScreen r tty (lent_tty new tty).display
 cursor_shows r tty old new terminal there row col is rows =
     let put : lent_tty new tty ≡ with_cursor (lent_tty old tty) terminal.row terminal.col =
-        ap (λ (l : LentState). lent_tty l tty) is ∙ put_there (lent_counted old) tty (with_cursor (lent_tty old tty) terminal.row terminal.col) in
+    ap (λ (l : LentState). lent_tty l tty) is ∙ put_there (lent_counted old) tty (with_cursor (lent_tty old tty) terminal.row terminal.col) in
     subst (λ (d : Device). ShowsScreen r tty d.display) (sym put) (shows_screen r tty (lent_tty old tty) terminal there row col rows)
 
 pub first_display : (a b : LentState) → ChangesDisplay 0 a b → ChangesDisplays a b
