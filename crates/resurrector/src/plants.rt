@@ -89,6 +89,7 @@ pub fn resurrect(plant: &mut Plant) -> Result<Revival, Panicked>
     let Own { lent, place } = own;
     let mut own = Own { lent, place };
     let revival = resurrect_lent(&dead, &mut own);
+    // With this all that was lent is given back, so that the plant is known again.
     drop(dead);
     revival
 }
