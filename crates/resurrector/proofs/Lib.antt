@@ -31,3 +31,4 @@ pub mod SoundTables
 pub mod SoundScreens
 pub mod SoundRevived
 pub mod Loans
+pub mod Painted

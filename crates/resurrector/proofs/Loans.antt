@@ -2,6 +2,7 @@
 use Rattle.std.proofs.Common.{◌≡◌, ℕ, ◌+◌, ◌/◌, ◌<◌, ◌≤◌, List, length, true, is_some, refl, sym, ap, ◌∙◌, arith}
 use Rattle.std.proofs.lemmas.Bool.Decides.{nat_tests}
 use Rattle.std.proofs.lemmas.Grind.{common_steps}
+use Rattle.ow_base.specs.Screen.{Screen}
 use Rattle.ow_base.specs.Sv32.{WordMap}
 use Rattle.ow_base.specs.declared.machine.AreaId.{AreaId}
 use Rattle.ow_base.specs.declared.machine.AreaId.TheVariants.{A, B}
@@ -9,6 +10,8 @@ use Rattle.phys_memory.specs.Halves.{first_own, own_half, with_own, words_beside
 use Rattle.phys_memory.specs.Memory.{IsSized, MemoryParts}
 use Rattle.phys_memory.proofs.Own.{first_own-sized_a, first_own-sized_b, own_half-sized}
 use Rattle.record_layouts.specs.Halves.{half_map}
+use Rattle.record_layouts.specs.Reading.{records_of}
+use Rattle.record_layouts.specs.Terminals.{ShowsScreen}
 use Rattle.kernel_builder.specs.Plan.{HasFrames}
 use Rattle.kernel_builder.specs.Reading.{IsReadAs}
 use Rattle.kernel_builder.specs.Sets.{IsBuilt}
@@ -76,3 +79,8 @@ module _ (d dead : DeadState) (w words after new : WordMap) (same : d ≡ dead) 
 
   pub read_again : after ≡ new → IsReadAs (own_map d) (plan_of d w) after → IsReadAs (own_map dead) (plan_of dead words) new
   read_again left is = rw (← same, ← read, ← left) is
+
+-- what is seen is that of the records of the half as it was left
+pub shown_again : (d dead : DeadState) (after new : WordMap) (tty : ℕ) (seen shown : Screen) → d ≡ dead → after ≡ new → shown ≡ seen
+    → ShowsScreen (records_of (own_map d) after) tty seen → ShowsScreen (records_of (own_map dead) new) tty shown
+shown_again d dead after new tty seen shown same left as_seen is = rw (← same, ← left, as_seen) is

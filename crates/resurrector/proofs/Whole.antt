@@ -1,5 +1,5 @@
 -- Each record of the new kernel decodes.
-use Rattle.std.proofs.Common.{ℕ, ◌<◌, is_some, refl, ap}
+use Rattle.std.proofs.Common.{ℕ, ◌+◌, ◌*◌, ◌<◌, is_some, refl, ap, arith}
 use Rattle.std.proofs.lemmas.List.Elements.{All-nil}
 use Rattle.ow_base.specs.Sv32.{WordMap}
 use Rattle.ow_plant.specs.Dead.{DeadState}
@@ -7,6 +7,7 @@ use Rattle.record_layouts.specs.declared.memory_map.MemoryMap.{MemoryMap}
 use Rattle.record_layouts.specs.declared.places.RecordId.TheVariants as id
 use Rattle.record_layouts.specs.Held.{AreComplete}
 use Rattle.record_layouts.specs.Reading.{records_of}
+use Rattle.record_layouts.specs.Terminals.{TerminalDecodes}
 use Rattle.kernel_builder.specs.Reading.{IsReadAs}
 use Rattle.resurrector.specs.Revived.{plan_of}
 
@@ -21,3 +22,11 @@ all_decode dead words own map read (id.Cache i) there = ap (λ o. is_some o) (re
 all_decode dead words own map read (id.Term i) there = ap (λ o. is_some o) (read.records (id.Term i) _ there refl tt)
 all_decode dead words own map read (id.Row i) there = ap (λ o. is_some o) (read.records (id.Row i) _ there refl tt)
 all_decode dead words own map read (id.Exit i) there = ap (λ o. is_some o) (read.records (id.Exit i) _ there refl tt)
+
+-- so both of its terminals do
+pub terminals_decode : (dead : DeadState) (words own : WordMap) (map : MemoryMap) → IsReadAs map (plan_of dead words) own → (tty : ℕ) → tty < 2
+    → TerminalDecodes (records_of map own) tty
+terminals_decode dead words own map read tty few = record {
+  terminal = all_decode dead words own map read (id.Term tty) few;
+  rows = λ place within. all_decode dead words own map read (id.Row (24 * tty + place)) (omega (arith, few, within));
+}

@@ -5,3 +5,4 @@ pub mod Revived
 pub mod Rebuilt
 pub mod RevivedImages
 pub mod Plants
+pub mod Painting

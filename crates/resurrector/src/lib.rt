@@ -4,6 +4,7 @@
 mod abort_laws;
 mod laws;
 mod left;
+mod painting;
 mod plants;
 mod procedures;
 mod resurrecting;

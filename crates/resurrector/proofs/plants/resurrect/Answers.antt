@@ -4,7 +4,7 @@ use Rattle.ow_plant.specs.Lent.{LentState}
 use Rattle.ow_plant.specs.Owning.{own_words}
 use Rattle.ow_plant.specs.declared.own_half.OwnPlace.{OwnPlace}
 use Rattle.word_store.proofs.Outcomes.{on_ok}
-use Rattle.resurrector.proofs.Loans.{built_again, dead_stays, read_again, words_after}
+use Rattle.resurrector.proofs.Loans.{built_again, dead_stays, read_again, shown_again, words_after}
 use Rattle.resurrector.proofs.plants.resurrect.Goals as goal
 
 pub returns-clause-built : goal.returns-clause-built
@@ -32,3 +32,23 @@ returns-clause-read c =
 pub returns-clause-dead : goal.returns-clause-dead
 returns-clause-dead c =
     dead_stays c.args.plant.now c.resurrection-own.result.1.lent.now _ c.resurrect_lent-revival.new.own.lent.now.own c.requires.armed c.resurrection-own.ensures.own c.resurrect_lent-revival.ensures.size (search rules)
+
+pub returns-clause-shown0 : goal.returns-clause-shown0
+returns-clause-shown0 c =
+    let s = c.args.plant.now in
+    let after = c.resurrect_lent-revival.new.own in
+    let first : after.place.first ≡ first_own s.memory s.live = ap (λ (place : OwnPlace). place.first) c.resurrect_lent-revival.ensures.place ∙ c.resurrection-own.ensures.place.first in
+    on_ok c.resurrect_lent-revival.result _ _
+    (shown_again _ _ (own_words after) _ 0 after.lent.now.tty0.display _ c.resurrection-own.ensures.left
+    (words_after s.memory s.live _ after.lent.now.own after.place.first first (search rules)) (search rules))
+    c.resurrect_lent-revival.ensures.shown0
+
+pub returns-clause-shown1 : goal.returns-clause-shown1
+returns-clause-shown1 c =
+    let s = c.args.plant.now in
+    let after = c.resurrect_lent-revival.new.own in
+    let first : after.place.first ≡ first_own s.memory s.live = ap (λ (place : OwnPlace). place.first) c.resurrect_lent-revival.ensures.place ∙ c.resurrection-own.ensures.place.first in
+    on_ok c.resurrect_lent-revival.result _ _
+    (shown_again _ _ (own_words after) _ 1 after.lent.now.tty1.display _ c.resurrection-own.ensures.left
+    (words_after s.memory s.live _ after.lent.now.own after.place.first first (search rules)) (search rules))
+    c.resurrect_lent-revival.ensures.shown1
