@@ -1,9 +1,10 @@
 //! The records and the processes that are left.
-ghost use Rattle.std.specs.Prelude.{◌≡◌, ◌↔◌, ℕ, ◌<◌, ◌≤◌, Some, None, Ok, IfSome, IfNone, IfOk, IfErr};
+ghost use Rattle.std.specs.Prelude.{◌≡◌, ◌↔◌, ℕ, ◌+◌, ◌<◌, ◌≤◌, false, Some, None, Ok, IfSome, IfNone, IfOk, IfErr};
 ghost use Rattle.record_layouts.specs.declared.proc.ProcRec.{ProcRec};
 ghost use Rattle.record_layouts.specs.Decode.{pid_in};
 ghost use Rattle.record_layouts.specs.Halves.{half_map};
 ghost use Rattle.record_layouts.specs.Left.{dead_proc};
+ghost use Rattle.record_layouts.specs.Overlay.{area_at, may_change, overlay};
 ghost use Rattle.dead_reader.specs.Cached.{dirty_by};
 ghost use Rattle.dead_reader.specs.Left.{handed_of, records_left};
 ghost use Rattle.dead_reader.specs.Losses.{bits_lost};
@@ -14,10 +15,12 @@ use crate::cached::dirty;
 use crate::losses::bits_lost;
 use crate::processes::{Unreadable, pid_in, process_left};
 use crate::terminals::in_flight;
+use ow_base::FRAME_WORDS;
 use ow_plant::DeadMemory;
 use record_layouts::{
-    AreaView, CacheRec, DeadProc, DescRec, ExitRec, FileRec, HeadRec, MemoryMap, ProcRec,
-    RecordView, RowRec, SigRec, TermRec, WordSource,
+    AreaView, CACHE_OWNERS, CacheRec, DeadProc, DescRec, ExitRec, FIRST_TABLE, FileRec, HeadRec,
+    MemoryMap, OWNERS, ProcRec, RecordView, RowRec, SigRec, TABLES_OF_SLOT, TermRec, WordSource,
+    other_words_stay,
 };
 
 /// The records that a kernel has left in its area, with a valid open intent laid over them, and the processes by them.
@@ -97,6 +100,29 @@ impl<M: DeadMemory> DeadView<'_, M> {
     }
 }
 
+impl<M: DeadMemory> DeadView<'_, M> {
+    // The word of this number in the area, as memory has it.
+    #[tactic(auto, unfolding(record_layouts::specs::Reading::records_of, record_layouts::specs::Reading::records_in))]
+    fn own_word(&self, number: u32) -> u32
+        requires { number < 65536 }
+        ensures { result ≡ area_at (M.words self.now.memory.now) (half_map (M.dead self.now.memory.now).area (M.dead self.now.memory.now).user_frames (M.dead self.now.memory.now).sectors).area_base number }
+    {
+        let frame = self.area.area_base() + number / FRAME_WORDS;
+        self.memory.load(frame, number % FRAME_WORDS).unwrap_or(0)
+    }
+
+    // The word of this number in the area, which no intent changes. So it is read as memory has it, at a cost that does
+    // not depend on the ranges of an open intent.
+    fn kept_word(&self, number: u32) -> u32
+        requires number { number < 65536 }
+        requires kept { may_change number (number + 1) ≡ false }
+        ensures { result ≡ overlay (area_at (M.words self.now.memory.now) (half_map (M.dead self.now.memory.now).area (M.dead self.now.memory.now).user_frames (M.dead self.now.memory.now).sectors).area_base) number }
+    {
+        other_words_stay();
+        self.own_word(number)
+    }
+}
+
 impl<M: DeadMemory> WordSource for DeadView<'_, M> {
     ghost words = { λ v. M.words v.memory.now };
 
@@ -150,16 +176,23 @@ impl<M: DeadMemory> RecordView for DeadView<'_, M> {
         self.area.exit(pid)
     }
 
+    #[tactic(auto, unfolding(record_layouts::specs::Reading::records_of, record_layouts::specs::Reading::records_in))]
     fn owner(&self, frame: u32) -> u32 {
-        self.area.owner(frame)
+        if frame < self.memory.user_frames() {
+            self.kept_word(OWNERS + frame)
+        } else {
+            0
+        }
     }
 
+    #[tactic(auto, unfolding(record_layouts::specs::Reading::records_of, record_layouts::specs::Reading::records_in))]
     fn cache_owner(&self, i: u32) -> u32 {
-        self.area.cache_owner(i)
+        self.kept_word(CACHE_OWNERS + i)
     }
 
+    #[tactic(auto, unfolding(record_layouts::specs::Reading::records_of, record_layouts::specs::Reading::records_in))]
     fn table_word(&self, slot: u32, table: u32, word: u32) -> u32 {
-        self.area.table_word(slot, table, word)
+        self.kept_word(FRAME_WORDS * (FIRST_TABLE + TABLES_OF_SLOT * slot + table) + word)
     }
 
     fn area_base(&self) -> u32 {
