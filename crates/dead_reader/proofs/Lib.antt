@@ -4,3 +4,4 @@ pub mod Framed
 pub mod Firsts
 pub mod Records
 pub mod LostRows
+pub mod LiveIn
