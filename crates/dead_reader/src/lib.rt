@@ -6,6 +6,7 @@ mod cached;
 mod laws;
 mod left;
 mod losses;
+mod pids;
 mod processes;
 mod terminals;
 mod view;

@@ -162,20 +162,22 @@ pub(crate) fn read_process<V: RecordView>(
 }
 
 /// The process of a slot as the panic left it, if an exit record is live there, or the first part of it that cannot be
-/// read.
+/// read. It is told the pid that is live in the slot.
 pub(crate) fn process_left<V: RecordView>(
     view: &V,
     handed: &Option<HandOver>,
     slot: u32,
+    pid: Option<u32>,
 ) -> Result<Option<DeadProc>, Unreadable>
-    requires { slot < 16 }
+    requires slot { slot < 16 }
+    requires pid { pid ≡ pid_in (V.records view.now) slot }
     ensures none { result ≡ Ok None ↔ pid_in (V.records view.now) slot ≡ None }
     ensures found { IfOk result (λ told. IfSome told (IsDead (V.records view.now) (handed_of handed.now) slot)) }
     ensures each { (process : ProcRec) → IsDecoded (V.records view.now) slot process
         → result ≡ Ok (Some (dead_proc (V.records view.now) (handed_of handed.now) slot process)) }
     ensures unreadable { IfErr result (IsUnreadable (V.records view.now) slot) }
 {
-    let Some(pid) = pid_in(view, slot) else {
+    let Some(pid) = pid else {
         return Ok(None);
     };
     match read_process(view, slot, pid) {
