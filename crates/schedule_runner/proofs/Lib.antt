@@ -1,2 +1,8 @@
--- How a run ends, and that it goes on.
+-- How a run ends, and that it goes on; and what a plant is after a revival.
 pub mod Running
+pub mod AreaWords
+pub mod DeadImages
+pub mod EnteredPanics
+pub mod Halves
+pub mod ShownAgain
+pub mod Revivals

@@ -2,6 +2,8 @@
 //! budget. All that it knows it learns from the calls of the kernel and from the machine.
 #![tactic(auto)]
 
+mod revival_laws;
 mod runner;
 
+pub use revival_laws::{entered_panics_are_broken, revived_plants_are_of_abort};
 pub use runner::run;
