@@ -32,3 +32,4 @@ pub mod SoundScreens
 pub mod SoundRevived
 pub mod Loans
 pub mod Painted
+pub mod InFlight

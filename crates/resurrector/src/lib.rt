@@ -2,6 +2,7 @@
 #![tactic(auto)]
 
 mod abort_laws;
+mod flights;
 mod laws;
 mod left;
 mod painting;
