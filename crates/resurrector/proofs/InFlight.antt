@@ -53,7 +53,7 @@ unfolding drawn
 drawn_long s byte long = drawn_by (nat_le 32 byte && nat_le byte 126) (byte == 10) (byte == 13) (byte == 8) s byte long
 
 -- the test for a terminal that decodes
-test_holds : (r : Records) (tty : ℕ) → TerminalDecodes r tty → terminal_decodes r tty ≡ true
+pub test_holds : (r : Records) (tty : ℕ) → TerminalDecodes r tty → terminal_decodes r tty ≡ true
 unfolding terminal_decodes
 test_holds r tty is = let rows = (decodes_is r tty (lacks_row r tty) is.terminal refl).1 is in rw (is.terminal, rows) refl
 
