@@ -93,7 +93,7 @@ pub fn resurrect(plant: &mut Plant) -> Result<Revival, Panicked>
     ensures tape1 { OnOk result (plant.new.tty1.tape ≡ tape_put (records_left (left_by plant.old) (words_beside plant.old.memory plant.old.live)) 1 plant.old.tty1.tape) }
     ensures left1 { IsTapeLeft (records_left (left_by plant.old) (words_beside plant.old.memory plant.old.live)) 1 plant.old.tty1.tape plant.new.tty1.tape }
     ensures room1 { plant.new.tty1.room ≡ plant.old.tty1.room }
-    ensures budget { plant.new.shape ≡ plant.old.shape }
+    ensures shape { plant.new.shape ≡ plant.old.shape }
     ensures rest { plant.new ≡ with_lent plant.old (lent_of plant.new) }
     ensures armed { IsArmed plant.new }
     ensures stays { OnOk result (plant.new.refusal ≡ None) }
