@@ -1,7 +1,8 @@
 -- Lemmas of the resurrector: a process that goes on can be spelled, descriptors that are closed, what became of slots, the
 -- next pid, frames of pages, the fates that are told, and the records that decode; and, where the panic damaged nothing, that
 -- what is built stands for the state that Abort leaves: first for a process and its record alone, then for pages, records,
--- processes, descriptions and the whole; and that it is sound: slots, pids, descriptors, tables, terminals and the whole.
+-- processes, descriptions and the whole; and that it is sound: slots, pids, descriptors, tables, terminals and the whole. Then
+-- the plant: what is lent and given back, displays that are painted, and bytes in flight.
 pub mod Reviving
 pub mod Descriptors
 pub mod Outcomes
@@ -32,3 +33,5 @@ pub mod SoundScreens
 pub mod SoundRevived
 pub mod Loans
 pub mod Painted
+pub mod InFlight
+pub mod SoundFlights

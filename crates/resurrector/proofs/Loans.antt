@@ -17,8 +17,10 @@ use Rattle.kernel_builder.specs.Reading.{IsReadAs}
 use Rattle.kernel_builder.specs.Sets.{IsBuilt}
 use Rattle.ow_plant.specs.Dead.{DeadState}
 use Rattle.ow_plant.specs.Lent.{LentState, lent_of}
-use Rattle.ow_plant.specs.State.{IsArmed, PlantState}
+use Rattle.ow_plant.specs.State.{Device, IsArmed, PlantState}
 use Rattle.ow_plant.proofs.Loans.{beside_stays}
+use Rattle.dead_reader.specs.Left.{records_left}
+use Rattle.resurrector.specs.Flights.{HasFlightRoom, IsTapeLeft, tape_put}
 use Rattle.resurrector.specs.Plants.{other_area, own_map, own_words_in}
 use Rattle.resurrector.specs.Revived.{plan_of}
 
@@ -84,3 +86,17 @@ module _ (d dead : DeadState) (w words after new : WordMap) (same : d ≡ dead) 
 pub shown_again : (d dead : DeadState) (after new : WordMap) (tty : ℕ) (seen shown : Screen) → d ≡ dead → after ≡ new → shown ≡ seen
     → ShowsScreen (records_of (own_map d) after) tty seen → ShowsScreen (records_of (own_map dead) new) tty shown
 shown_again d dead after new tty seen shown same left as_seen is = rw (← same, ← left, as_seen) is
+
+-- there is room for the bytes in flight on what is lent
+pub room_again : (d dead : DeadState) (w words : WordMap) (tty : ℕ) (device seen : Device) → d ≡ dead → w ≡ words → device ≡ seen
+    → HasFlightRoom (records_left dead words) tty seen → HasFlightRoom (records_left d w) tty device
+room_again d dead w words tty device seen same read as_seen is = rw (same, read, as_seen) is
+
+-- and the tapes are those of what is lent
+module _ (d dead : DeadState) (w words : WordMap) (tty : ℕ) (old before new after : List ℕ) (same : d ≡ dead) (read : w ≡ words)
+    (begun : old ≡ before) (left : after ≡ new) where
+  pub tape_again : new ≡ tape_put (records_left d w) tty old → after ≡ tape_put (records_left dead words) tty before
+  tape_again is = rw (← same, ← read, ← begun, left) is
+
+  pub left_again : IsTapeLeft (records_left d w) tty old new → IsTapeLeft (records_left dead words) tty before after
+  left_again is = rw (← same, ← read, ← begun, left) is

@@ -62,11 +62,11 @@ put_there lent tty device = same_tty (tty == 0) lent device
 pub other_there : (lent : LentState) (tty n : ℕ) (device : Device) → tty < 2 → n < 2 → n ≢ tty → lent_tty (with_tty lent tty device) n ≡ lent_tty lent n
 other_there lent tty n device few low apart = grind (arith, nat_tests, common_steps)
 
-own_kept : (test : Bool) (lent : LentState) (device : Device) → (if test then record lent { tty0 = device } else record lent { tty1 = device }).own ≡ lent.own
+pub own_kept : (test : Bool) (lent : LentState) (device : Device) → (if test then record lent { tty0 = device } else record lent { tty1 = device }).own ≡ lent.own
 own_kept true lent device = refl
 own_kept false lent device = refl
 
-budget_kept : (test : Bool) (lent : LentState) (device : Device) → (if test then record lent { tty0 = device } else record lent { tty1 = device }).budget ≡ lent.budget
+pub budget_kept : (test : Bool) (lent : LentState) (device : Device) → (if test then record lent { tty0 = device } else record lent { tty1 = device }).budget ≡ lent.budget
 budget_kept true lent device = refl
 budget_kept false lent device = refl
 

@@ -6,3 +6,4 @@ pub mod Rebuilt
 pub mod RevivedImages
 pub mod Plants
 pub mod Painting
+pub mod Flights

@@ -2,6 +2,7 @@
 #![tactic(auto)]
 
 mod abort_laws;
+mod flights;
 mod laws;
 mod left;
 mod painting;
@@ -20,4 +21,4 @@ pub use plants::resurrect;
 pub use procedures::revive;
 pub use record_layouts::Fate;
 pub use resurrecting::{Revival, resurrect_into};
-pub use sound_laws::revived_images_are_sound;
+pub use sound_laws::{bytes_put_are_of_images, revived_images_are_sound};

@@ -1,10 +1,11 @@
-use Rattle.std.proofs.Common.{rules, ◌≡◌, ◌∙◌, ap}
+use Rattle.std.proofs.Common.{rules, ◌≡◌, ◌∙◌, sym, ap, arith, length}
 use Rattle.phys_memory.specs.Halves.{first_own, words_from}
+use Rattle.ow_plant.specs.Dead.{DeadState}
 use Rattle.ow_plant.specs.Lent.{LentState}
 use Rattle.ow_plant.specs.Owning.{own_words}
 use Rattle.ow_plant.specs.declared.own_half.OwnPlace.{OwnPlace}
 use Rattle.word_store.proofs.Outcomes.{on_ok}
-use Rattle.resurrector.proofs.Loans.{built_again, dead_stays, read_again, shown_again, words_after}
+use Rattle.resurrector.proofs.Loans.{built_again, dead_stays, left_again, read_again, room_again, shown_again, tape_again, words_after}
 use Rattle.resurrector.proofs.plants.resurrect.Goals as goal
 
 pub returns-clause-built : goal.returns-clause-built
@@ -52,3 +53,59 @@ returns-clause-shown1 c =
     (shown_again _ _ (own_words after) _ 1 after.lent.now.tty1.display _ c.resurrection-own.ensures.left
     (words_after s.memory s.live _ after.lent.now.own after.place.first first (search rules)) (search rules))
     c.resurrect_lent-revival.ensures.shown1
+
+pub resurrect_lent-revival-requires-clause-room0 : goal.resurrect_lent-revival-requires-clause-room0
+resurrect_lent-revival-requires-clause-room0 c =
+    let s = c.args.plant.now in
+    room_again _ _ _ _ 0 c.resurrection-own.result.1.lent.now.tty0 s.tty0 c.resurrection-own.ensures.left c.resurrection-own.ensures.dead_words
+    (ap (λ (lent : LentState). lent.tty0) c.resurrection-own.ensures.own) (c.requires.room 0 (omega arith))
+
+pub returns-clause-tape0 : goal.returns-clause-tape0
+returns-clause-tape0 c =
+    let s = c.args.plant.now in
+    let after = c.resurrect_lent-revival.new.own in
+    on_ok c.resurrect_lent-revival.result _ _
+    (tape_again _ _ _ _ 0 _ s.tty0.tape after.lent.now.tty0.tape _ c.resurrection-own.ensures.left c.resurrection-own.ensures.dead_words
+    (ap (λ (lent : LentState). lent.tty0.tape) c.resurrection-own.ensures.own) (search rules))
+    c.resurrect_lent-revival.ensures.tape0
+
+pub returns-clause-left0 : goal.returns-clause-left0
+returns-clause-left0 c =
+    let s = c.args.plant.now in
+    let after = c.resurrect_lent-revival.new.own in
+    left_again _ _ _ _ 0 _ s.tty0.tape after.lent.now.tty0.tape _ c.resurrection-own.ensures.left c.resurrection-own.ensures.dead_words
+    (ap (λ (lent : LentState). lent.tty0.tape) c.resurrection-own.ensures.own) (search rules)
+    c.resurrect_lent-revival.ensures.left0
+
+pub resurrect_lent-revival-requires-clause-room1 : goal.resurrect_lent-revival-requires-clause-room1
+resurrect_lent-revival-requires-clause-room1 c =
+    let s = c.args.plant.now in
+    room_again _ _ _ _ 1 c.resurrection-own.result.1.lent.now.tty1 s.tty1 c.resurrection-own.ensures.left c.resurrection-own.ensures.dead_words
+    (ap (λ (lent : LentState). lent.tty1) c.resurrection-own.ensures.own) (c.requires.room 1 (omega arith))
+
+pub returns-clause-tape1 : goal.returns-clause-tape1
+returns-clause-tape1 c =
+    let s = c.args.plant.now in
+    let after = c.resurrect_lent-revival.new.own in
+    on_ok c.resurrect_lent-revival.result _ _
+    (tape_again _ _ _ _ 1 _ s.tty1.tape after.lent.now.tty1.tape _ c.resurrection-own.ensures.left c.resurrection-own.ensures.dead_words
+    (ap (λ (lent : LentState). lent.tty1.tape) c.resurrection-own.ensures.own) (search rules))
+    c.resurrect_lent-revival.ensures.tape1
+
+pub returns-clause-left1 : goal.returns-clause-left1
+returns-clause-left1 c =
+    let s = c.args.plant.now in
+    let after = c.resurrect_lent-revival.new.own in
+    left_again _ _ _ _ 1 _ s.tty1.tape after.lent.now.tty1.tape _ c.resurrection-own.ensures.left c.resurrection-own.ensures.dead_words
+    (ap (λ (lent : LentState). lent.tty1.tape) c.resurrection-own.ensures.own) (search rules)
+    c.resurrect_lent-revival.ensures.left1
+
+pub resurrect_lent-revival-requires-clause-counted0 : goal.resurrect_lent-revival-requires-clause-counted0
+resurrect_lent-revival-requires-clause-counted0 c =
+    ap (λ (dead : DeadState). dead.counts 0) c.resurrection-own.ensures.left
+    ∙ sym (ap (λ (lent : LentState). length lent.tty0.tape) c.resurrection-own.ensures.own)
+
+pub resurrect_lent-revival-requires-clause-counted1 : goal.resurrect_lent-revival-requires-clause-counted1
+resurrect_lent-revival-requires-clause-counted1 c =
+    ap (λ (dead : DeadState). dead.counts 1) c.resurrection-own.ensures.left
+    ∙ sym (ap (λ (lent : LentState). length lent.tty1.tape) c.resurrection-own.ensures.own)
