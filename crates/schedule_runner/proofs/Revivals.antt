@@ -35,6 +35,7 @@ use Rattle.resurrector.specs.Revived.{revived_plan}
 use Rattle.resurrector.specs.RevivedImages.{image_revived}
 use Rattle.resurrector.proofs.Built.{read_as_revived}
 use Rattle.resurrector.proofs.LeftRevivals.{built_unix, told_fates}
+use Rattle.resurrector.proofs.SoundFlights.{put_same}
 use Rattle.resurrector.proofs.SoundRevived.{image_sound}
 use Rattle.tty_screen.proofs.ShownScreens.{one_screen}
 use Rattle.schedule_runner.specs.Revivals.{IsBroken, IsResurrected, dead_words, fates_aborted, fates_told, taken_over, unix_aborted}
@@ -115,8 +116,8 @@ module _ (old new : PlantState) (h : HandedOver) (broken : IsBroken old h) (made
   built = built_in_memory area old.shape.user_frames old.shape.sectors _ (own_words_in old) (own_words_in new) words broken.armed.few_frames own_same built_as
 
   tape_same : (tty : ℕ) → tapes_of new tty ≡ tapes_put (records_of_image i) i.tapes tty
-  tape_same zero = made.tape0
-  tape_same (suc zero) = made.tape1
+  tape_same zero = made.tape0 ∙ put_same i old.steps old.traps (dead_sound old h broken) 0 (omega arith)
+  tape_same (suc zero) = made.tape1 ∙ put_same i old.steps old.traps (dead_sound old h broken) 1 (omega arith)
   tape_same (suc (suc n)) =
       no_more_tapes new n
       ∙ sym (ap (λ (o : Option TermRec). (terminal_by (tapes_of old (suc (suc n))) o).tape) (no_more_terminals i n) ∙ no_more_tapes old n)

@@ -4,7 +4,7 @@ use Rattle.ow_base.specs.Sv32.{WordMap}
 use Rattle.dead_reader.specs.Left.{handed_of, records_left}
 use Rattle.kernel_builder.specs.Sets.{IsBuilt}
 use Rattle.kernel_takeover.specs.Areas.{other_area}
-use Rattle.ow_plant.specs.Images.{image_of, tapes_of}
+use Rattle.ow_plant.specs.Images.{image_of}
 use Rattle.ow_plant.specs.Lent.{lent_of, with_lent}
 use Rattle.ow_plant.specs.Owning.{left_by}
 use Rattle.ow_plant.specs.State.{IsArmed, PlantState, with_live}
@@ -19,8 +19,8 @@ use Rattle.record_layouts.specs.Unix.Abort.{abort, fates}
 use Rattle.record_layouts.specs.Unix.State.{Unix}
 use Rattle.record_layouts.specs.Unix.Wounds.{no_wounds}
 use Rattle.record_layouts.specs.LeftImages.{unix_left}
+use Rattle.resurrector.specs.Flights.{tape_put}
 use Rattle.resurrector.specs.Plants.{own_map, own_words_in}
-use Rattle.resurrector.specs.Rebuilt.{tapes_put}
 use Rattle.resurrector.specs.Revived.{fates_left, plan_of}
 
 -- the words that can be read while another kernel is built: all but those of the half that is not live
@@ -49,8 +49,8 @@ pub record IsResurrected (old new : PlantState) : Type 0 where
   pub rest : new ≡ with_lent old (lent_of new)
   pub shape : new.shape ≡ old.shape
   pub built : IsBuilt (own_map (left_by old)) (plan_of (left_by old) (dead_words old)) (own_words_in old) (own_words_in new)
-  pub tape0 : new.tty0.tape ≡ tapes_put (dead_records old) (tapes_of old) 0
-  pub tape1 : new.tty1.tape ≡ tapes_put (dead_records old) (tapes_of old) 1
+  pub tape0 : new.tty0.tape ≡ tape_put (dead_records old) 0 old.tty0.tape
+  pub tape1 : new.tty1.tape ≡ tape_put (dead_records old) 1 old.tty1.tape
   pub shown0 : ShowsScreen (records_of (own_map (left_by old)) (own_words_in new)) 0 new.tty0.display
   pub shown1 : ShowsScreen (records_of (own_map (left_by old)) (own_words_in new)) 1 new.tty1.display
 
