@@ -6,3 +6,5 @@ pub mod EnteredPanics
 pub mod Halves
 pub mod ShownAgain
 pub mod Revivals
+pub mod FlightRoom
+pub mod Refused

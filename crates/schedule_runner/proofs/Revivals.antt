@@ -71,7 +71,7 @@ few_bytes : (tape : List ℕ) (most : ℕ) (held : Option TermRec) → is_some h
 few_bytes tape most (Some terminal) there few = few
 few_bytes tape most None there few = cc
 
-dead_sound : (s : PlantState) (h : HandedOver) → IsBroken s h → IsSoundAtPanic (dead_image s) s.steps s.traps
+pub dead_sound : (s : PlantState) (h : HandedOver) → IsBroken s h → IsSoundAtPanic (dead_image s) s.steps s.traps
 dead_sound s h broken = sound_too s broken.armed s.steps s.traps broken.sound
 
 pub fates_same : (s : PlantState) (h : HandedOver) → IsBroken s h → fates_told s ≡ fates_aborted s h

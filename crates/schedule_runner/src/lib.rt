@@ -3,7 +3,9 @@
 #![tactic(auto)]
 
 mod revival_laws;
+mod reviving;
 mod runner;
 
 pub use revival_laws::{entered_panics_are_broken, revived_plants_are_of_abort};
+pub use reviving::revive;
 pub use runner::run;
