@@ -3,6 +3,8 @@ use Rattle.std.specs.Prelude.{ℕ, ◌+◌, ◌-◌, ◌*◌, Bool, nat_lt, if�
 use Rattle.ow_base.specs.World.{page_count}
 use Rattle.ow_base.specs.declared.worlds.Load.{Load}
 use Rattle.ow_base.specs.declared.worlds.Program.{Program}
+use Rattle.ow_base.specs.declared.machine.AreaId.TheVariants.{A}
+use Rattle.record_layouts.specs.Halves.{half_map}
 use Rattle.record_layouts.specs.declared.memory_map.MemoryMap.{MemoryMap}
 use Rattle.record_layouts.specs.Unix.Choice.{least_from}
 use Rattle.record_layouts.specs.Unix.State.{is_within}
@@ -82,4 +84,4 @@ booted_plan load = record {
 
 -- where the frames of half A are
 abbrev pub boot_map : Load → MemoryMap
-boot_map load = record { area_base = 1; cache_base = 65; pool_base = 129; user_frames = load.shape.user_frames; sectors = load.shape.sectors }
+boot_map load = half_map A load.shape.user_frames load.shape.sectors

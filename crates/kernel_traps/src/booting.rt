@@ -22,7 +22,7 @@ use intent_store::Live;
 use kernel_builder::build_kernel;
 pub use laws::worlds_can_boot;
 use layout::Booted;
-use ow_base::{Load, Panicked};
+use ow_base::{AreaId, Load, Panicked};
 use ow_plant::Plant;
 use record_layouts::MemoryMap;
 
@@ -35,13 +35,7 @@ fn build_load(plant: &mut Plant, load: &Load)
     ensures same_rest { rest_of plant.new ≡ rest_of plant.old }
     ensures able { is_able plant.new ≡ true }
 {
-    let map = MemoryMap {
-        area_base: 1,
-        cache_base: 65,
-        pool_base: 129,
-        user_frames: load.shape.user_frames,
-        sectors: load.shape.sectors,
-    };
+    let map = MemoryMap::of_area(AreaId::A, load.shape.user_frames, load.shape.sectors);
     let mut live = Live::new(plant);
     match build_kernel(&mut live, &map, &Booted { load }) {
         Ok(()) => {}

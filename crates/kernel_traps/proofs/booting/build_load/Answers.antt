@@ -10,8 +10,8 @@ use Rattle.kernel_traps.proofs.booting.build_load.Goals as goal
 
 pub build_kernel-requires-clause-map : goal.build_kernel-requires-clause-map
 build_kernel-requires-clause-map c =
-    subst (λ (s : PlantState). HasFrames (words_of s.memory) (boot_map c.args.load.now)) (sym c.new-live.ensures.plant)
-    (booting_frames c.args.load.now c.args.plant.now c.requires.booting c.requires.shape c.requires.load.most_frames)
+    rw c.of_area-map.ensures.map (subst (λ (s : PlantState). HasFrames (words_of s.memory) (boot_map c.args.load.now)) (sym c.new-live.ensures.plant)
+    (booting_frames c.args.load.now c.args.plant.now c.requires.booting c.requires.shape c.requires.load.most_frames))
 
 pub unreachable-requires : goal.unreachable-requires
 unreachable-requires c =
