@@ -131,13 +131,13 @@ fn first_other(
 #[test]
 fn a_small_one_is_begun_again(rt: HostRuntime) -> Result<(), Fail> {
     let dead = small(rt.alloc())?;
-    assert_eq!(rt; first_other(rt.alloc(), &dead, &SMALL, 97)?, None);
+    assert_eq!(rt; first_other(rt.alloc(), &dead, &SMALL, 1)?, None);
     Ok(())
 }
 
 #[test]
 fn a_full_one_is_begun_again(rt: HostRuntime) -> Result<(), Fail> {
     let dead = many(rt.alloc(), 384, 16)?;
-    assert_eq!(rt; first_other(rt.alloc(), &dead, &FULL, 9_700)?, None);
+    assert_eq!(rt; first_other(rt.alloc(), &dead, &FULL, 97)?, None);
     Ok(())
 }
