@@ -15,3 +15,4 @@ pub mod BootLayout
 pub mod BootState
 pub mod Traps
 pub mod Due
+pub mod Broken

@@ -13,6 +13,7 @@ pub record IsSameMachine (old new : PlantState) : Type 0 where
   pub points : new.points ≡ old.points
   pub live : new.live ≡ old.live
   pub history : new.history ≡ old.history
+  pub reviving : new.reviving ≡ old.reviving
 
 -- a process is live
 abbrev pub IsSomeLive : PlantState → Type 0

@@ -25,6 +25,14 @@ is_in trap point = (point.trap == trap) && not point.entered
 abbrev pub is_past : (trap made : ℕ) → PanicPoint → Bool
 is_past trap made point = (point.trap == trap) && (not point.entered && nat_le point.store made)
 
+-- a point is one of this trap, and exactly its number of stores is made in it
+abbrev pub is_at : (trap made : ℕ) → PanicPoint → Bool
+is_at trap made point = (point.trap == trap) && (not point.entered && point.store == made)
+
+-- a point is one of this trap, and at most its number of stores is made in it
+abbrev pub is_ahead : (trap made : ℕ) → PanicPoint → Bool
+is_ahead trap made point = (point.trap == trap) && (not point.entered && nat_le made point.store)
+
 -- the trap of a point has come, and its panic was not entered yet
 abbrev pub has_come : (trap : ℕ) → PanicPoint → Bool
 has_come trap point = nat_le point.trap trap && not point.entered
