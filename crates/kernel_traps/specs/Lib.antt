@@ -16,3 +16,4 @@ pub mod BootState
 pub mod Traps
 pub mod Due
 pub mod Broken
+pub mod Refused
