@@ -31,7 +31,7 @@ abbrev pub IsShort : Planned → Type 0
 IsShort (PlanOnce items) = Unit {0}
 IsShort (PlanWrite tty from len items) = (tty < 2) × (len ≤ 16)
 
-length-bytes_at : (pages : Pages) (address count : ℕ) → length (bytes_at pages address count) ≡ count
+pub length-bytes_at : (pages : Pages) (address count : ℕ) → length (bytes_at pages address count) ≡ count
 unfolding bytes_at
 length-bytes_at pages address zero = refl
 length-bytes_at pages address (suc count) = ap suc (length-bytes_at pages (address + 1) count)
@@ -164,7 +164,7 @@ write_kept s new steps tty from len bytes items put trap most step ends low shor
     }
 
 -- a service is carried out
-kept : (s new : PlantState) (steps slot : ℕ) (plan : Planned) → IsInTrap s steps → s.shape.budget ≤ 2000000 → HasStep plan steps s.steps → EndsTrap (records_held s) s.traps plan → IsShort plan
+pub kept : (s new : PlantState) (steps slot : ℕ) (plan : Planned) → IsInTrap s steps → s.shape.budget ≤ 2000000 → HasStep plan steps s.steps → EndsTrap (records_held s) s.traps plan → IsShort plan
     → IsCarriedOut s slot plan (held_of new) → IsKept s new
 kept s new steps slot (PlanOnce items) trap most step ends short is = once_kept s new steps items trap ends is
 kept s new steps slot (PlanWrite tty from len items) trap most step ends (low, short) (put, is, last) =

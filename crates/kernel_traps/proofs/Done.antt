@@ -33,7 +33,7 @@ counted_is written (byte ∷ bytes) small =
     rw on (counted_is (written + 1) bytes (omega arith) ∙ omega arith)
 
 -- a record that counts its tape adds nothing to it
-tape_counted : (tape : List ℕ) (terminal : TermRec) → terminal.written ≡ length tape → tape_by tape terminal ≡ tape
+pub tape_counted : (tape : List ℕ) (terminal : TermRec) → terminal.written ≡ length tape → tape_by tape terminal ≡ tape
 tape_counted tape terminal counted = grind (arith, nat_tests, counted)
 
 told : (bytes tape : List ℕ) (before after : TermRec) → before.written ≡ length tape → length tape + length bytes < 2 ^ 32 → CountsBytes bytes before after

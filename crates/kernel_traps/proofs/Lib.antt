@@ -1,6 +1,6 @@
 -- The lemmas of the crate: bytes that are put and how a service is done; a trap that begins, and records and terminals
 -- that are sound once it is carried out; the words of a kernel that runs, and a process in user mode, whose stores are
--- seen by itself alone; and what boot leaves.
+-- seen by itself alone; what boot leaves; and that what a refusal leaves of a trap is sound at a panic.
 pub mod Puts
 pub mod Done
 pub mod Entering
@@ -8,6 +8,10 @@ pub mod OfProcesses
 pub mod ShownSound
 pub mod Terminals
 pub mod Carried
+pub mod LeftSoundPlans
+pub mod LeftSoundTapes
+pub mod LeftSoundHeld
+pub mod LeftSound
 pub mod OfMemory
 pub mod UnixBy
 pub mod Returning

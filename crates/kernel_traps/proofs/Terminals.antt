@@ -64,12 +64,12 @@ of_device-by old new tty bytes device (Some before) None shows few counts is = a
 of_device-by old new tty bytes device None after shows few counts is = absurd counts
 
 -- the devices of which one has bytes more
-own_device : (s : PlantState) (tty : ℕ) (bytes : List ℕ) → tty < 2 → tty_of (with_puts s tty bytes) tty ≡ puts_on (tty_of s tty) bytes
+pub own_device : (s : PlantState) (tty : ℕ) (bytes : List ℕ) → tty < 2 → tty_of (with_puts s tty bytes) tty ≡ puts_on (tty_of s tty) bytes
 own_device s zero bytes low = refl
 own_device s (suc zero) bytes low = refl
 own_device s (suc (suc n)) bytes low = absurd (omega arith)
 
-other_device : (s : PlantState) (tty other : ℕ) (bytes : List ℕ) → tty < 2 → other < 2 → other ≢ tty → tty_of (with_puts s tty bytes) other ≡ tty_of s other
+pub other_device : (s : PlantState) (tty other : ℕ) (bytes : List ℕ) → tty < 2 → other < 2 → other ≢ tty → tty_of (with_puts s tty bytes) other ≡ tty_of s other
 other_device s zero zero bytes low low_too apart = absurd (apart refl)
 other_device s zero (suc zero) bytes low low_too apart = refl
 other_device s (suc zero) zero bytes low low_too apart = refl

@@ -1,0 +1,159 @@
+-- What is left of what was held when a trap with a plan was refused a store, or its end: records are sound, and terminals
+-- but for a last byte that is not out.
+use Rattle.std.proofs.Common.{◌≡◌, ◌∙◌, ◌+◌, ◌^◌, ◌<◌, ◌≤◌, ℕ, List, length, take, Option, Some, None, IfSome, inl, inr, refl, sym, ap, subst, arith}
+use Rattle.std.proofs.lemmas.List.{length-take}
+use Rattle.phys_memory.specs.Memory.{words_of}
+use Rattle.record_layouts.specs.declared.head.HeadRec.{HeadRec}
+use Rattle.record_layouts.specs.declared.places.RecordId.TheVariants as id
+use Rattle.record_layouts.specs.Decode.{tape_by}
+use Rattle.record_layouts.specs.Held.{AreValues, Held, Records}
+use Rattle.record_layouts.specs.Sound.{AreInWrites, AreOnTerminals, AreSound}
+use Rattle.record_layouts.specs.SoundImages.{AreOfTapes, IsServedBefore}
+use Rattle.record_layouts.specs.Values.{are_values}
+use Rattle.syscalls.specs.Planned.{Planned, PlanOnce, PlanWrite}
+use Rattle.ow_plant.specs.Images.{AreFronts, tapes_of}
+use Rattle.ow_plant.specs.State.{PlantState, tty_of, Device}
+use Rattle.intent_store.specs.Live.{held_of, map_of, records_held, rest_of}
+use Rattle.kernel_traps.specs.Carrying.{IsCarriedOut, MayBeLeft, bytes_of}
+use Rattle.kernel_traps.specs.Ending.{EndsTrap, HasStep, MayBeLeftOfPlan}
+use Rattle.kernel_traps.specs.Plants.{IsInTrap}
+use Rattle.kernel_traps.specs.Putting.{IsPut, with_puts}
+use Rattle.kernel_traps.proofs.Carried.{IsKept, IsShort, kept, length-bytes_at}
+use Rattle.kernel_traps.proofs.LeftSoundTapes.{AreOutByOne, devices_decoded, fronts_put, fronts_same, out_by_one, puts_decoded, tapes_decoded}
+use Rattle.kernel_traps.proofs.OfProcesses.{shown_by}
+use Rattle.kernel_traps.proofs.Puts.{puts_beside}
+use Rattle.kernel_traps.proofs.ShownSound.{AreShown, drawn_rows, drawn_terms, on_terminals_too, shown_sound, writes_too}
+use Rattle.kernel_traps.proofs.Terminals.{few_bytes, of_devices}
+
+-- what is left: nothing changes beside records, words and terminals, of which the tapes only grow
+pub record IsHeldLeft (old new : Held PlantState) : Type 0 where
+  pub tty0 : Device
+  pub tty1 : Device
+  pub rest : new.rest ≡ record old.rest { tty0 = tty0; tty1 = tty1 }
+  pub fronts : AreFronts old.rest new.rest
+  pub records : AreSound new.records
+  pub on_terminals : AreOnTerminals new.records
+  pub in_writes : AreInWrites new.records
+  pub served : IsServedBefore new.records (old.rest.traps + 1)
+  pub terminals : AreOfTapes new.records (λ tty terminal. tape_by (tapes_of new.rest tty) terminal) old.rest.steps
+
+served_too : (held : Option HeadRec) (trap : ℕ) → IfSome held (λ head. head.served < trap) → IfSome held (λ head. head.served < trap + 1)
+served_too (Some head) trap before = omega (arith, before)
+served_too None trap before = tt
+
+-- nothing was done
+left_none : (s : PlantState) (steps : ℕ) → IsInTrap s steps → IsHeldLeft (held_of s) (held_of s)
+left_none s steps trap = record {
+  tty0 = s.tty0;
+  tty1 = s.tty1;
+  rest = refl;
+  fronts = fronts_same (rest_of s);
+  records = trap.held.records;
+  on_terminals = trap.held.on_terminals;
+  in_writes = trap.held.in_writes;
+  served = served_too (records_held s).head s.traps trap.served;
+  terminals = tapes_decoded (rest_of s) (records_held s) (λ tty. (tty_of s tty).tape) s.steps (devices_decoded (rest_of s) (records_held s) trap.terminals.records)
+      (λ tty low. let few = trap.terminals.bytes tty low in omega (arith, few, trap.counted));
+}
+
+-- all was done
+carried_fronts : (s new : PlantState) (slot : ℕ) (plan : Planned) → IsCarriedOut s slot plan (held_of new) → AreFronts (rest_of s) (rest_of new)
+carried_fronts s new slot (PlanOnce items) is =
+    subst (λ (p : PlantState). AreFronts (rest_of s) p) (sym (ap (λ (h : Held PlantState). h.rest) is)) (fronts_same (rest_of s))
+carried_fronts s new slot (PlanWrite tty from len items) (put, is, last) =
+    let rest : rest_of new ≡ with_puts (rest_of s) tty (bytes_of s slot from len) =
+    ap (λ (h : Held PlantState). h.rest) last ∙ ap (λ (h : Held PlantState). h.rest) is.rest in
+    subst (λ (p : PlantState). AreFronts (rest_of s) p) (sym rest) (fronts_put (rest_of s) tty (bytes_of s slot from len))
+
+left_kept : (s new : PlantState) → IsKept s new → AreFronts (rest_of s) (rest_of new) → IsHeldLeft (held_of s) (held_of new)
+left_kept s new all fronts = record {
+  tty0 = all.tty0;
+  tty1 = all.tty1;
+  rest = all.rest;
+  fronts = fronts;
+  records = all.records;
+  on_terminals = all.on_terminals;
+  in_writes = all.in_writes;
+  served = subst (λ (held : Option HeadRec). IfSome held (λ head. head.served < s.traps + 1)) (sym all.is_head) (omega (arith, all.served));
+  terminals = tapes_decoded (rest_of new) (records_held new) (λ tty. (tty_of new tty).tape) s.steps
+      (devices_decoded (rest_of new) (records_held new) all.terminals.records) all.terminals.bytes;
+}
+
+-- bytes were counted, and are out but for the last of them
+module _ (s new : PlantState) (steps tty : ℕ) (counted out : List ℕ) (trap : IsInTrap s steps) (most : s.shape.budget ≤ 2000000) (step : steps < s.steps) (low : tty < 2)
+    (short : length counted ≤ 16) (outs : AreOutByOne counted out) (is : IsPut (held_of s) tty counted out (held_of new)) where
+  abbrev before : Records
+  before = records_held s
+
+  abbrev after : Records
+  after = records_held new
+
+  put_rest : rest_of new ≡ with_puts (rest_of s) tty out
+  put_rest = ap (λ (h : Held PlantState). h.rest) is.rest
+
+  put_records : after ≡ shown_by before after.terms after.rows
+  put_records = is.drawn.beside.rest
+
+  put_shown : AreShown after.terms after.rows
+  put_shown =
+      let values : AreValues after = are_values (map_of new) (words_of new.memory) in
+      record {
+        terms_decode = drawn_terms tty counted before after is.drawn trap.held.records.complete;
+        rows_decode = drawn_rows tty counted before after is.drawn trap.held.records.complete;
+        terms_fit = λ other. values (id.Term other);
+        rows_fit = λ i. values (id.Row i);
+      }
+
+  put_tapes : AreOfTapes after (λ tty terminal. tape_by (tapes_of (rest_of new) tty) terminal) s.steps
+  put_tapes =
+      let was = trap.terminals.bytes tty low in
+      let few : length (tty_of s tty).tape + length counted < 2 ^ 32 = omega (arith, was, trap.counted, trap.budget, most, short) in
+      let devices = of_devices (rest_of s) tty counted before after low is.drawn few trap.terminals.records in
+      let counts = few_bytes (rest_of s) tty counted steps s.steps low short step trap.terminals.bytes in
+      let decoded = puts_decoded (rest_of s) tty counted out after (before.terms tty) low outs is.drawn.counted devices in
+      subst (λ (p : PlantState). AreOfTapes after (λ tty terminal. tape_by (tapes_of p tty) terminal) s.steps) (sym put_rest)
+      (tapes_decoded (with_puts (rest_of s) tty out) after (λ other. (tty_of (with_puts (rest_of s) tty counted) other).tape) s.steps decoded counts)
+
+  left_put : IsHeldLeft (held_of s) (held_of new)
+  left_put = record {
+    tty0 = (with_puts (rest_of s) tty out).tty0;
+    tty1 = (with_puts (rest_of s) tty out).tty1;
+    rest = put_rest ∙ puts_beside (rest_of s) tty out;
+    fronts = subst (λ (p : PlantState). AreFronts (rest_of s) p) (sym put_rest) (fronts_put (rest_of s) tty out);
+    records = subst AreSound (sym put_records) (shown_sound before after.terms after.rows trap.held.records put_shown);
+    on_terminals = subst AreOnTerminals (sym put_records) (on_terminals_too before after.terms after.rows trap.held.on_terminals);
+    in_writes = subst AreInWrites (sym put_records) (writes_too before after.terms after.rows trap.held.in_writes);
+    served = subst (λ (held : Option HeadRec). IfSome held (λ head. head.served < s.traps + 1)) (sym (ap (λ (q : Records). q.head) put_records))
+        (served_too before.head s.traps trap.served);
+    terminals = put_tapes;
+  }
+
+-- a trap with its plan
+module _ (s new : PlantState) (steps slot : ℕ) (trap : IsInTrap s steps) (most : s.shape.budget ≤ 2000000) where
+  left_carried : (plan : Planned) → HasStep plan steps s.steps → EndsTrap (records_held s) s.traps plan → IsShort plan → IsCarriedOut s slot plan (held_of new)
+      → IsHeldLeft (held_of s) (held_of new)
+  left_carried plan step ends short is = left_kept s new (kept s new steps slot plan trap most step ends short is) (carried_fronts s new slot plan is)
+
+  left_partly : (plan : Planned) → HasStep plan steps s.steps → EndsTrap (records_held s) s.traps plan → IsShort plan → MayBeLeft s slot plan (held_of new)
+      → IsHeldLeft (held_of s) (held_of new)
+  left_partly (PlanOnce items) step ends short (inl same) = subst (λ (h : Held PlantState). IsHeldLeft (held_of s) h) (sym same) (left_none s steps trap)
+  left_partly (PlanOnce items) step ends short (inr set) = left_carried (PlanOnce items) step ends short set
+  left_partly (PlanWrite tty from len items) step ends (low, few) (inl (count, within, inl put)) =
+      let bytes = bytes_of s slot from len in
+      let long : length bytes ≡ len = length-bytes_at _ from len in
+      left_put s new steps tty (take count bytes) (take count bytes) trap most step low (omega (arith, length-take count bytes, long, few)) (inl refl) put
+  left_partly (PlanWrite tty from len items) step ends (low, few) (inl (count, within, inr put)) =
+      let bytes = bytes_of s slot from len in
+      let long : length bytes ≡ len = length-bytes_at _ from len in
+      left_put s new steps tty (take (count + 1) bytes) (take count bytes) trap most step low (omega (arith, length-take (count + 1) bytes, long, few))
+      (out_by_one bytes count within) put
+  left_partly (PlanWrite tty from len items) step ends (low, few) (inr (inl put)) =
+      let bytes = bytes_of s slot from len in
+      let long : length bytes ≡ len = length-bytes_at _ from len in
+      left_put s new steps tty bytes bytes trap most step low (omega (arith, long, few)) (inl refl) put
+  left_partly (PlanWrite tty from len items) step ends short (inr (inr written)) = left_carried (PlanWrite tty from len items) step ends short written
+
+  pub left_of_plan : (plan : Planned) → HasStep plan steps s.steps → EndsTrap (records_held s) s.traps plan → IsShort plan → MayBeLeftOfPlan s slot plan new
+      → IsHeldLeft (held_of s) (held_of new)
+  left_of_plan plan step ends short (inl (refused, left)) = left_partly plan step ends short left
+  left_of_plan plan step ends short (inr (refused, all)) = left_carried plan step ends short all
