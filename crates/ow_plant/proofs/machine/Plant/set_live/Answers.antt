@@ -1,4 +1,4 @@
-use Rattle.std.proofs.Common.{◌≡◌, true, false, is_some, ap, ◌∙◌}
+use Rattle.std.proofs.Common.{is_some, ap, ◌∙◌}
 use Rattle.std.specs.List.{list_any}
 use Rattle.ow_plant.specs.Points.{is_behind}
 use Rattle.ow_plant.specs.State.{PlantState}
