@@ -1,5 +1,5 @@
 -- The panics that a plant is armed with.
-use Rattle.std.specs.Prelude.{◌≡◌, ℕ, ◌+◌, ◌<◌, ◌≤◌, Bool, false, nat_le, ◌==◌, ◌&&◌, ◌||◌, not, if◌then◌else◌, List, [], ◌∷◌, map, length}
+use Rattle.std.specs.Prelude.{◌≡◌, ℕ, ◌+◌, ◌<◌, ◌≤◌, Bool, false, nat_le, nat_lt, ◌==◌, ◌&&◌, ◌||◌, not, if◌then◌else◌, List, [], ◌∷◌, map, length}
 use Rattle.std.specs.List.{All, AllPairs}
 use Rattle.ow_base.specs.declared.worlds.Point.{Point}
 use Rattle.ow_plant.specs.declared.points.PanicPoint.{PanicPoint}
@@ -32,6 +32,14 @@ is_at trap made point = (point.trap == trap) && (not point.entered && point.stor
 -- a point is one of this trap, and at most its number of stores is made in it
 abbrev pub is_ahead : (trap made : ℕ) → PanicPoint → Bool
 is_ahead trap made point = (point.trap == trap) && (not point.entered && nat_le made point.store)
+
+-- a point is one of this trap, and more than its number of stores are made in it
+abbrev pub is_behind : (trap made : ℕ) → PanicPoint → Bool
+is_behind trap made point = (point.trap == trap) && (not point.entered && nat_lt point.store made)
+
+-- a point is one of a trap before this one, and its panic was not entered: a later trap began in its place
+abbrev pub is_missed : (trap : ℕ) → PanicPoint → Bool
+is_missed trap point = nat_lt point.trap trap && not point.entered
 
 -- the trap of a point has come, and its panic was not entered yet
 abbrev pub has_come : (trap : ℕ) → PanicPoint → Bool

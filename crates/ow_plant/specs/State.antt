@@ -1,5 +1,5 @@
 -- What contracts see of the plant.
-use Rattle.std.specs.Prelude.{◌≡◌, ℕ, ◌+◌, ◌-◌, ◌*◌, ◌^◌, ◌≤◌, min, Bool, true, false, MatchBool, nat_lt, ◌==◌, ◌||◌, if◌then◌else◌, List, [], ◌∷◌, ◌++◌, map, length, nat_le, slice_set, Option, Some, None, is_some}
+use Rattle.std.specs.Prelude.{◌≡◌, ℕ, ◌+◌, ◌-◌, ◌*◌, ◌^◌, ◌<◌, ◌≤◌, min, Bool, true, false, MatchBool, nat_lt, ◌==◌, ◌||◌, if◌then◌else◌, List, [], ◌∷◌, ◌++◌, map, length, nat_le, slice_set, Option, Some, None, is_some}
 use Rattle.std.specs.List.{list_any}
 use Rattle.ow_base.specs.Screen.{Screen, blank_screen, drawn}
 use Rattle.ow_base.specs.Sv32.{sv32_space}
@@ -17,7 +17,7 @@ use Rattle.ow_base.specs.declared.worlds.PanicRecord.{PanicRecord}
 use Rattle.panic_handover.specs.HandOver.{IsHandOver, may_tell_registers, zero_bank}
 use Rattle.panic_handover.specs.declared.hand_over.HandOver.{HandOver}
 use Rattle.ow_plant.specs.Past.{IsRecordOf, PastPanics}
-use Rattle.ow_plant.specs.Points.{coming, entered_by, has_come, is_in, is_past, listed_for}
+use Rattle.ow_plant.specs.Points.{coming, entered_by, has_come, is_ahead, is_at, is_behind, is_in, is_missed, is_past, listed_for}
 use Rattle.ow_plant.specs.declared.past.Told.{Told}
 use Rattle.ow_plant.specs.declared.points.PanicPoint.{PanicPoint}
 use Rattle.ow_plant.specs.declared.UserEnd.{UserEnd}
@@ -125,10 +125,23 @@ pub record HasRoom (armed : Bool) (user_frames : ℕ) (points : List PanicPoint)
   pub one_each : coming points ≤ past.room
   pub due : reviving ≡ false → is_some refused ≡ true → list_any (has_come traps) points ≡ true
 
+-- What holds of every plant beside, while no other kernel takes over: in the trap that was begun last no more stores are
+-- made than a point of it says; and what was refused, was refused exactly at a point of this trap: a store behind exactly
+-- the point's number of stores, the end of the trap behind at most so many. Where a trap is begun while a refusal stands,
+-- the point is one of an earlier trap and is missed. The count of traps must not have come to its last value, at which one
+-- number is that of many traps
+pub record IsExact (points : List PanicPoint) (reviving : Bool) (stores : ℕ) (refused : Option Refusal) (traps : ℕ) : Type 0 where
+  pub none_behind : reviving ≡ false → list_any (is_behind traps stores) points ≡ false
+  pub store : reviving ≡ false → traps < 2 ^ 32 - 1 → list_any (is_missed traps) points ≡ false → refused ≡ Some refusal.Store
+      → list_any (is_at traps stores) points ≡ true
+  pub leave : reviving ≡ false → traps < 2 ^ 32 - 1 → list_any (is_missed traps) points ≡ false → refused ≡ Some refusal.Leave
+      → list_any (is_ahead traps stores) points ≡ true
+
 -- what holds of every plant
-pub record IsPlant (armed : Bool) (user_frames : ℕ) (memory : MemoryParts) (points : List PanicPoint) (reviving : Bool) (refused : Option Refusal) (traps : ℕ) (past : PastPanics) : Type 0 where
+pub record IsPlant (armed : Bool) (user_frames : ℕ) (memory : MemoryParts) (points : List PanicPoint) (reviving : Bool) (stores : ℕ) (refused : Option Refusal) (traps : ℕ) (past : PastPanics) : Type 0 where
   pub fits : FitsShape armed user_frames memory
   pub room : HasRoom armed user_frames points reviving refused traps past
+  pub exact : IsExact points reviving stores refused traps
 
 -- a refusal stands
 abbrev pub is_refused : PlantState → Bool

@@ -1,10 +1,13 @@
 //! What holds of a plant of which a part is lent. The functions do nothing: their contracts are the laws.
-ghost use Rattle.std.specs.Prelude.{◌≡◌, ℕ, ◌<◌, if◌then◌else◌, true, List, length, take, Some};
+ghost use Rattle.std.specs.Prelude.{◌≡◌, ℕ, ◌+◌, ◌<◌, if◌then◌else◌, true, false, List, length, take, Some};
+ghost use Rattle.std.specs.List.{list_any};
 ghost use Rattle.panic_handover.specs.HandOver.{hand_over_in};
 ghost use Rattle.phys_memory.specs.Halves.{first_own, is_among, is_own, own_half, words_beside, words_from};
 ghost use Rattle.phys_memory.specs.Memory.{words_of};
 ghost use Rattle.ow_plant.specs.Lent.{LentState, lent_cursor_at, lent_of, lent_painted, lent_put, lent_refused, lent_refuses, lent_stored, with_lent};
+ghost use Rattle.ow_plant.specs.Points.{has_come, is_in, is_missed};
 ghost use Rattle.ow_plant.specs.State.{EntersPanic, IsArmed, PlantState, handed_over, refuses, store_refused, with_cursor_at, with_painted, with_put, with_stored};
+ghost use Rattle.ow_plant.specs.declared.points.PanicPoint.{PanicPoint};
 ghost use Rattle.ow_plant.specs.declared.refusal.Refusal.TheVariants.{Store};
 
 /// What a kernel that takes over stores into what is lent is what the plant's own calls store: the same changes, counted
@@ -47,4 +50,18 @@ pub const fn what_is_lent_is_given_back()
 pub const fn panics_hand_over()
     ensures read { (old new : PlantState) → EntersPanic old new → hand_over_in (take 40 new.memory.boot) ≡ Some (handed_over old) }
     ensures armed { (old new : PlantState) → EntersPanic old new → IsArmed old → IsArmed new }
+{}
+
+/// A panic that was entered is over: no point of its trap, or of one before, is to come.
+pub const fn entered_panics_are_over()
+    ensures of_trap { (old new : PlantState) → EntersPanic old new → list_any (is_in new.traps) new.points ≡ false }
+    ensures before { (old new : PlantState) → EntersPanic old new → list_any (has_come new.traps) new.points ≡ false }
+{}
+
+/// The points that a later trap misses are those that had come by the one before it; and none has come by the next trap
+/// where none had come so far and the next one has none.
+pub const fn panics_come_in_their_traps()
+    ensures missed { (trap : ℕ) (points : List PanicPoint) → list_any (is_missed (trap + 1)) points ≡ list_any (has_come trap) points }
+    ensures next { (trap : ℕ) (points : List PanicPoint) → list_any (has_come trap) points ≡ false → list_any (is_in (trap + 1)) points ≡ false
+        → list_any (has_come (trap + 1)) points ≡ false }
 {}

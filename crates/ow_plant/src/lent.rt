@@ -224,7 +224,7 @@ impl Lent {
     {
         self.tty0.blank();
         self.tty1.blank();
-        self.stores = 0;
+        self.begin_count();
         self.refusal = None;
     }
 

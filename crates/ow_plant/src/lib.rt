@@ -20,7 +20,8 @@ pub use dead_half::Dead;
 pub use dead_memory::DeadMemory;
 pub use displays::Display;
 pub use laws::{
-    dead_words_stay, own_stores_are_stores, panics_hand_over, what_is_lent_is_given_back,
+    dead_words_stay, entered_panics_are_over, own_stores_are_stores, panics_come_in_their_traps,
+    panics_hand_over, what_is_lent_is_given_back,
 };
 pub use lent::Lent;
 pub use machine::Plant;

@@ -1,10 +1,12 @@
 //! The plant: processor, memory and terminals.
-ghost use Rattle.std.specs.Prelude.{◌≡◌, ◌≢◌, if◌then◌else◌, ℕ, ◌+◌, ◌*◌, ◌^◌, ◌<◌, ◌≤◌, ◌↔◌, true, false, [], None, length, is_some, IsTrue, IsErr, IsNone, IfOk, IfSome, OnOk, OnErr};
+ghost use Rattle.std.specs.Prelude.{◌≡◌, ◌≢◌, if◌then◌else◌, ℕ, ◌+◌, ◌-◌, ◌*◌, ◌^◌, ◌<◌, ◌≤◌, ◌↔◌, true, false, [], None, Some, length, is_some, IsTrue, IsErr, IsNone, IfOk, IfSome, OnOk, OnErr};
 ghost use Rattle.std.specs.Borrow.{sem};
+ghost use Rattle.std.specs.List.{list_any};
 ghost use Rattle.phys_memory.specs.Halves.{words_beside};
 ghost use Rattle.phys_memory.specs.Reading.{words_read};
 ghost use Rattle.phys_memory.specs.Memory.{frame_count, with_word, words_of, zeroed};
-ghost use Rattle.ow_plant.specs.Points.{ArePoints, points_of};
+ghost use Rattle.ow_plant.specs.Points.{ArePoints, is_ahead, is_at, is_behind, is_missed, points_of};
+ghost use Rattle.ow_plant.specs.declared.refusal.Refusal.TheVariants.{Leave, Store};
 ghost use Rattle.panic_handover.specs.HandOver.{FitsHandOver, may_tell_registers, zero_bank};
 ghost use Rattle.ow_plant.specs.Lent.{lent_at_first, lent_of};
 ghost use Rattle.ow_plant.specs.Lending.{LendsOwn};
@@ -102,7 +104,7 @@ impl Model for Plant {
       history = p.past.entries;
     } };
 
-    ghost invariant = { λ p. IsPlant p.armed p.user_frames (put_together p.reviving p.seen.memory p.live p.lent.own) p.points p.reviving p.lent.refusal p.traps p.past };
+    ghost invariant = { λ p. IsPlant p.armed p.user_frames (put_together p.reviving p.seen.memory p.live p.lent.own) p.points p.reviving p.lent.stores p.lent.refusal p.traps p.past };
 }
 
 /// Memory with 0 in each word, and two silent terminals. `AllocError` comes only for want of memory.
@@ -389,6 +391,22 @@ impl Plant {
         ensures room { (tty : ℕ) → tty < 2 → (tty_of self.now tty).room ≡ 16 * self.now.shape.budget }
     {
         self.lent.fits_budget();
+    }
+
+    /// What holds of every plant on which no other kernel takes over: a refused store came behind exactly as many stores
+    /// of the running trap as a point of it says, and a refused end of a trap behind at most so many. The call does
+    /// nothing; contracts above cite it, since it is how the entry of a panic tells the store that was listed.
+    ///
+    /// It speaks of a refusal in the trap that was begun last. A trap that is begun while a refusal stands, or in place of
+    /// the panic of another, misses that point; and at the last value of the count of traps many traps have one number.
+    pub fn refusals_are_exact(&self)
+        ensures store { self.now.reviving ≡ false → self.now.traps < 2 ^ 32 - 1 → list_any (is_missed self.now.traps) self.now.points ≡ false
+            → self.now.refusal ≡ Some Store → list_any (is_at self.now.traps self.now.stores) self.now.points ≡ true }
+        ensures leave { self.now.reviving ≡ false → self.now.traps < 2 ^ 32 - 1 → list_any (is_missed self.now.traps) self.now.points ≡ false
+            → self.now.refusal ≡ Some Leave → list_any (is_ahead self.now.traps self.now.stores) self.now.points ≡ true }
+        ensures none_behind { self.now.reviving ≡ false → list_any (is_behind self.now.traps self.now.stores) self.now.points ≡ false }
+    {
+        let _ = &self.points;
     }
 
     /// A turn of the process in user mode. After `quantum` instructions its slice is over, and nothing is

@@ -6,4 +6,5 @@ use Rattle.ow_plant.proofs.machine.Plant.arm.Goals as goal
 pub invariant_of-self : goal.invariant_of-self
 invariant_of-self c =
     let none : c.in_ok-seen.lent.refusal ≡ None = ap (λ (l : LentState). l.refusal) c.in_ok-seen.ensures.lent in
-    rw (none, c.in_ok-points.ensures, c.in_ok-past.ensures) (plant_armed _ _ _ _ (omega arith) c.requires.frames)
+    let unstored : c.in_ok-seen.lent.stores ≡ 0 = ap (λ (l : LentState). l.stores) c.in_ok-seen.ensures.lent in
+    rw (none, unstored, c.in_ok-points.ensures, c.in_ok-past.ensures) (plant_armed _ _ _ _ (omega arith) c.requires.frames)
