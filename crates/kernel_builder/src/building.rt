@@ -2,6 +2,8 @@
 ghost use Rattle.std.specs.Prelude.{◌≡◌, ◌+◌, ◌*◌, ◌^◌, ◌<◌, ◌≤◌, true, Some, OnOk, OnErr, IfSome};
 ghost use Rattle.record_layouts.specs.Held.{beside};
 ghost use Rattle.record_layouts.specs.Overlay.{HasArea, area_at};
+ghost use Rattle.ow_plant.specs.declared.refusal.Refusal.TheVariants.{Store};
+ghost use Rattle.kernel_builder.specs.Counts.{frame_words, most_built, most_in_area, most_in_pages, slot_words, tables_words};
 ghost use Rattle.kernel_builder.specs.Reading.{IsReadAs};
 ghost use Rattle.kernel_builder.specs.Plan.{HasFrames, claim_by, entry_word, owner_word, page_entry, root_entry};
 ghost use Rattle.kernel_builder.specs.Sets.{HasFrame, HasPool, IsBuilt, IsFilled, outside, with_frame, with_owners, with_pages, with_slot, with_table, with_tables, without, without_pool};
@@ -82,6 +84,8 @@ fn set_table<B: Blueprint, S: WordStore>(
     ensures beside { beside map.now.area_base (S.words store.new) ≡ beside map.now.area_base (S.words store.old) }
     ensures rest { S.rest store.new ≡ S.rest store.old }
     ensures stays { OnOk result (S.able store.new ≡ true) }
+    ensures cause { OnErr result (S.refusal store.new ≡ Some Store) }
+    ensures counted { S.made store.new ≤ S.made store.old + frame_words }
     ensures allowed { OnErr result (S.may_refuse (S.rest store.old) ≡ true) }
     ensures place { S.place store.new ≡ S.place store.old }
 {
@@ -116,6 +120,8 @@ fn set_slot<B: Blueprint, S: WordStore>(
     ensures beside { beside map.now.area_base (S.words store.new) ≡ beside map.now.area_base (S.words store.old) }
     ensures rest { S.rest store.new ≡ S.rest store.old }
     ensures stays { OnOk result (S.able store.new ≡ true) }
+    ensures cause { OnErr result (S.refusal store.new ≡ Some Store) }
+    ensures counted { S.made store.new ≤ S.made store.old + slot_words }
     ensures allowed { OnErr result (S.may_refuse (S.rest store.old) ≡ true) }
     ensures place { S.place store.new ≡ S.place store.old }
 {
@@ -142,6 +148,8 @@ fn set_tables<B: Blueprint, S: WordStore>(
     ensures beside { beside map.now.area_base (S.words store.new) ≡ beside map.now.area_base (S.words store.old) }
     ensures rest { S.rest store.new ≡ S.rest store.old }
     ensures stays { OnOk result (S.able store.new ≡ true) }
+    ensures cause { OnErr result (S.refusal store.new ≡ Some Store) }
+    ensures counted { S.made store.new ≤ S.made store.old + tables_words }
     ensures allowed { OnErr result (S.may_refuse (S.rest store.old) ≡ true) }
     ensures place { S.place store.new ≡ S.place store.old }
 {
@@ -194,6 +202,8 @@ fn set_owners<B: Blueprint, S: WordStore>(
     ensures beside { beside map.now.area_base (S.words store.new) ≡ beside map.now.area_base (S.words store.old) }
     ensures rest { S.rest store.new ≡ S.rest store.old }
     ensures stays { OnOk result (S.able store.new ≡ true) }
+    ensures cause { OnErr result (S.refusal store.new ≡ Some Store) }
+    ensures counted { S.made store.new ≤ S.made store.old + frame_words }
     ensures allowed { OnErr result (S.may_refuse (S.rest store.old) ≡ true) }
     ensures place { S.place store.new ≡ S.place store.old }
 {
@@ -230,6 +240,8 @@ fn copy_page<B: Blueprint, S: WordStore>(
     ensures there { HasFrame (S.words store.new) (map.now.pool_base + frame) }
     ensures rest { S.rest store.new ≡ S.rest store.old }
     ensures stays { OnOk result (S.able store.new ≡ true) }
+    ensures cause { OnErr result (S.refusal store.new ≡ Some Store) }
+    ensures counted { S.made store.new ≤ S.made store.old + frame_words }
     ensures allowed { OnErr result (S.may_refuse (S.rest store.old) ≡ true) }
     ensures place { S.place store.new ≡ S.place store.old }
 {
@@ -260,6 +272,8 @@ fn copy_pages<B: Blueprint, S: WordStore>(
     ensures there { HasPool (S.words store.new) map.now }
     ensures rest { S.rest store.new ≡ S.rest store.old }
     ensures stays { OnOk result (S.able store.new ≡ true) }
+    ensures cause { OnErr result (S.refusal store.new ≡ Some Store) }
+    ensures counted { S.made store.new ≤ S.made store.old + most_in_pages map.now.user_frames }
     ensures allowed { OnErr result (S.may_refuse (S.rest store.old) ≡ true) }
     ensures place { S.place store.new ≡ S.place store.old }
 {
@@ -289,6 +303,8 @@ fn set_area<B: Blueprint, S: WordStore>(
     ensures beside { beside map.now.area_base (S.words store.new) ≡ beside map.now.area_base (S.words store.old) }
     ensures rest { S.rest store.new ≡ S.rest store.old }
     ensures stays { OnOk result (S.able store.new ≡ true) }
+    ensures cause { OnErr result (S.refusal store.new ≡ Some Store) }
+    ensures counted { S.made store.new ≤ S.made store.old + most_in_area }
     ensures allowed { OnErr result (S.may_refuse (S.rest store.old) ≡ true) }
     ensures place { S.place store.new ≡ S.place store.old }
 {
@@ -314,6 +330,8 @@ pub fn build_kernel<B: Blueprint, S: WordStore>(
     ensures outside { outside map.now (S.words store.new) ≡ outside map.now (S.words store.old) }
     ensures rest { S.rest store.new ≡ S.rest store.old }
     ensures stays { OnOk result (S.able store.new ≡ true) }
+    ensures cause { OnErr result (S.refusal store.new ≡ Some Store) }
+    ensures counted { S.made store.new ≤ S.made store.old + most_built map.now.user_frames }
     ensures allowed { OnErr result (S.may_refuse (S.rest store.old) ≡ true) }
     ensures place { S.place store.new ≡ S.place store.old }
 {

@@ -1,10 +1,12 @@
 //! Setting all records of a new kernel, in an area of which nothing is assumed.
-ghost use Rattle.std.specs.Prelude.{◌≡◌, ◌+◌, ◌<◌, ◌≤◌, true, OnOk, OnErr, length};
+ghost use Rattle.std.specs.Prelude.{◌≡◌, ◌+◌, ◌<◌, ◌≤◌, true, Some, OnOk, OnErr, length};
 ghost use Rattle.record_layouts.specs.Held.{beside};
 ghost use Rattle.record_layouts.specs.Overlay.{HasArea, area_at};
 ghost use Rattle.record_layouts.specs.Patch.{IsPatchItem};
-ghost use Rattle.record_layouts.specs.Places.{IsRecordId};
+ghost use Rattle.record_layouts.specs.Places.{IsRecordId, length_of};
 ghost use Rattle.record_layouts.specs.Seam.{IsSpelled};
+ghost use Rattle.ow_plant.specs.declared.refusal.Refusal.TheVariants.{Store};
+ghost use Rattle.kernel_builder.specs.Counts.{record_words};
 ghost use Rattle.kernel_builder.specs.Sets.{HasRecords, IsSet, index_of, unrecorded, with_first_words};
 
 use crate::blueprint::Blueprint;
@@ -50,6 +52,8 @@ fn store_words<S: WordStore>(
     ensures beside { beside base (S.words store.new) ≡ beside base (S.words store.old) }
     ensures rest { S.rest store.new ≡ S.rest store.old }
     ensures stays { OnOk result (S.able store.new ≡ true) }
+    ensures cause { OnErr result (S.refusal store.new ≡ Some Store) }
+    ensures counted { S.made store.new ≤ S.made store.old + length words.now }
     ensures allowed { OnErr result (S.may_refuse (S.rest store.old) ≡ true) }
     ensures place { S.place store.new ≡ S.place store.old }
 {
@@ -76,6 +80,8 @@ fn store_record<S: WordStore>(
     ensures beside { beside base (S.words store.new) ≡ beside base (S.words store.old) }
     ensures rest { S.rest store.new ≡ S.rest store.old }
     ensures stays { OnOk result (S.able store.new ≡ true) }
+    ensures cause { OnErr result (S.refusal store.new ≡ Some Store) }
+    ensures counted { S.made store.new ≤ S.made store.old + length_of id }
     ensures allowed { OnErr result (S.may_refuse (S.rest store.old) ≡ true) }
     ensures place { S.place store.new ≡ S.place store.old }
 {
@@ -99,6 +105,8 @@ fn set_record<S: WordStore>(
     ensures beside { beside base (S.words store.new) ≡ beside base (S.words store.old) }
     ensures rest { S.rest store.new ≡ S.rest store.old }
     ensures stays { OnOk result (S.able store.new ≡ true) }
+    ensures cause { OnErr result (S.refusal store.new ≡ Some Store) }
+    ensures counted { S.made store.new ≤ S.made store.old + length_of id }
     ensures allowed { OnErr result (S.may_refuse (S.rest store.old) ≡ true) }
     ensures place { S.place store.new ≡ S.place store.old }
 {
@@ -116,7 +124,7 @@ fn set_record<S: WordStore>(
 }
 
 /// Sets all records, as a blueprint says.
-#[tactic(auto, using(crate::proofs::Sets::records_none))]
+#[tactic(auto, using(crate::proofs::Sets::records_none, crate::proofs::Counts::none_below, crate::proofs::Counts::below_all))]
 pub(crate) fn set_records<B: Blueprint, S: WordStore>(
     store: &mut S,
     base: u32,
@@ -131,6 +139,8 @@ pub(crate) fn set_records<B: Blueprint, S: WordStore>(
     ensures beside { beside base (S.words store.new) ≡ beside base (S.words store.old) }
     ensures rest { S.rest store.new ≡ S.rest store.old }
     ensures stays { OnOk result (S.able store.new ≡ true) }
+    ensures cause { OnErr result (S.refusal store.new ≡ Some Store) }
+    ensures counted { S.made store.new ≤ S.made store.old + record_words }
     ensures allowed { OnErr result (S.may_refuse (S.rest store.old) ≡ true) }
     ensures place { S.place store.new ≡ S.place store.old }
 {

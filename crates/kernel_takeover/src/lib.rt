@@ -1,8 +1,9 @@
 //! The last store of a revival: the kernel that was built takes over.
 #![tactic(auto)]
 
-ghost use Rattle.std.specs.Prelude.{◌≡◌, ◌↔◌, true, IsErr, IsTrue, OnErr, OnOk};
+ghost use Rattle.std.specs.Prelude.{◌≡◌, ◌↔◌, true, IsErr, IsTrue, None, OnErr, OnOk, Some};
 ghost use Rattle.ow_plant.specs.State.{refuses, store_refused, with_live};
+ghost use Rattle.ow_plant.specs.declared.refusal.Refusal.TheVariants.{Store};
 ghost use Rattle.kernel_takeover.specs.Areas.{other_area};
 
 use ow_base::{AreaId, Panicked};
@@ -28,6 +29,7 @@ pub fn take_over(plant: &mut Plant) -> Result<(), Panicked>
     ensures exact { IsTrue (refuses plant.old) ↔ IsErr result }
     ensures ok { OnOk result (plant.new ≡ with_live plant.old (other_area plant.old.live)) }
     ensures err { OnErr result (plant.new ≡ store_refused plant.old) }
+    ensures cause { OnErr result (plant.old.refusal ≡ None → plant.new.refusal ≡ Some Store) }
 {
     let area = other_area(plant.live());
     plant.set_live(area)

@@ -1,5 +1,5 @@
 -- A display of which a row is painted.
-use Rattle.std.proofs.Common.{◌≡◌, ◌≢◌, ℕ, ◌+◌, ◌*◌, ◌%◌, ◌<◌, ◌==◌, Bool, true, false, if◌then◌else◌, List, [], length, slice_set, Option, Some, None, is_some, refl, sym, subst, ap, ◌∙◌, inl, inr, arith, length-set}
+use Rattle.std.proofs.Common.{◌≡◌, ◌≢◌, ℕ, ◌+◌, ◌*◌, ◌%◌, ◌<◌, ◌≤◌, ◌==◌, Bool, true, false, if◌then◌else◌, List, [], length, slice_set, Option, Some, None, is_some, refl, sym, subst, ap, ◌∙◌, inl, inr, arith, length-set}
 use Rattle.std.proofs.lemmas.Bool.{cases_eq}
 use Rattle.std.proofs.lemmas.Bool.Decides.{nat_tests}
 use Rattle.std.proofs.lemmas.Grind.{common_steps}
@@ -18,7 +18,7 @@ use Rattle.record_layouts.specs.declared.term.TermRec.{TermRec}
 use Rattle.record_layouts.specs.declared.row.RowRec.{RowRec}
 use Rattle.record_layouts.specs.Terminals.{ShowsScreen, cursor_col, cursor_row, text_of, text_under}
 use Rattle.ow_plant.specs.Lent.{LentState, lent_counted, lent_cursor_at, lent_refused, lent_tty, with_tty}
-use Rattle.ow_plant.specs.State.{Device, with_cursor}
+use Rattle.ow_plant.specs.State.{Device, first_refusal, risen, with_cursor}
 use Rattle.ow_plant.specs.declared.refusal.Refusal.{Refusal}
 use Rattle.resurrector.specs.Painting.{ChangesDisplay, ChangesDisplays, ShowsRows}
 
@@ -76,6 +76,24 @@ refusal_kept false lent device = refl
 
 pub kept_refusal : (lent : LentState) (tty : ℕ) (device : Device) → (with_tty lent tty device).refusal ≡ lent.refusal
 kept_refusal lent tty device = refusal_kept (tty == 0) lent device
+
+-- the one store is counted, or refused with nothing counted
+stores_kept : (test : Bool) (lent : LentState) (device : Device) → (if test then record lent { tty0 = device } else record lent { tty1 = device }).stores ≡ lent.stores
+stores_kept true lent device = refl
+stores_kept false lent device = refl
+
+pub one_counted : (old new : LentState) (tty : ℕ) (device : Device) → new ≡ with_tty (lent_counted old) tty device → new.stores ≤ old.stores + 1
+one_counted old new tty device is =
+    let same : new.stores ≡ risen old.stores = ap (λ (l : LentState). l.stores) is ∙ stores_kept (tty == 0) (lent_counted old) device in
+    omega (arith, same)
+
+pub none_counted : (old new : LentState) (one : Refusal) → new ≡ lent_refused old one → new.stores ≤ old.stores + 1
+none_counted old new one is =
+    let same : new.stores ≡ old.stores = ap (λ (l : LentState). l.stores) is in omega (arith, same)
+
+pub refusal_stands : (old new : LentState) (one : Refusal) → old.refusal ≡ None → new ≡ lent_refused old one → new.refusal ≡ Some one
+refusal_stands old new one none is =
+    ap (λ (l : LentState). l.refusal) is ∙ ap (λ (o : Option Refusal). first_refusal o one) none
 
 pub changes_display : (old new : LentState) (tty : ℕ) (device : Device) → tty < 2 → device.tape ≡ (lent_tty old tty).tape → device.room ≡ (lent_tty old tty).room
     → new ≡ with_tty (lent_counted old) tty device → ChangesDisplay tty old new

@@ -1,10 +1,12 @@
 //! Bytes in flight: the dead kernel counts them as written, and their device has not written them.
-ghost use Rattle.std.specs.Prelude.{◌≡◌, ◌<◌, length, None, OnOk, OnErr, true};
+ghost use Rattle.std.specs.Prelude.{◌≡◌, ◌+◌, ◌<◌, ◌≤◌, length, None, Some, OnOk, OnErr, true};
 ghost use Rattle.std.specs.List.{list_any};
 ghost use Rattle.dead_reader.specs.Left.{records_left};
 ghost use Rattle.ow_plant.specs.Lent.{lent_tty};
 ghost use Rattle.ow_plant.specs.Owning.{own_words};
 ghost use Rattle.ow_plant.specs.Points.{is_in};
+ghost use Rattle.ow_plant.specs.declared.refusal.Refusal.TheVariants.{Store};
+ghost use Rattle.resurrector.specs.Counts.{most_flights};
 ghost use Rattle.resurrector.specs.Flights.{HasFlightRoom, LeavesFlight, LeavesFlights, tape_put};
 
 use dead_reader::{DeadMemory, DeadView};
@@ -20,6 +22,8 @@ fn put_in_flight<M: DeadMemory>(dead: &M, own: &mut Own<'_>, tty: u32) -> Result
     ensures put { OnOk result ((lent_tty own.new.lent.now tty).tape ≡ tape_put (records_left (M.dead dead.now) (M.words dead.now)) tty (lent_tty own.old.lent.now tty).tape) }
     ensures only { LeavesFlight (records_left (M.dead dead.now) (M.words dead.now)) tty own.old.lent.now own.new.lent.now }
     ensures stays { OnOk result (own.new.lent.now.refusal ≡ None) }
+    ensures cause { OnErr result (own.new.lent.now.refusal ≡ Some Store) }
+    ensures counted { own.new.lent.now.stores ≤ own.old.lent.now.stores + 1 }
     ensures allowed { OnErr result (list_any (is_in own.old.place.trap) own.old.place.points.now ≡ true) }
     ensures place { own.new.place ≡ own.old.place }
     ensures same_reference { own.new.lent.ghost_name ≡ own.old.lent.ghost_name }
@@ -44,6 +48,8 @@ pub(crate) fn put_all_in_flight<M: DeadMemory>(dead: &M, own: &mut Own<'_>) -> R
     ensures words { own_words own.new ≡ own_words own.old }
     ensures only { LeavesFlights (records_left (M.dead dead.now) (M.words dead.now)) own.old.lent.now own.new.lent.now }
     ensures stays { OnOk result (own.new.lent.now.refusal ≡ None) }
+    ensures cause { OnErr result (own.new.lent.now.refusal ≡ Some Store) }
+    ensures counted { own.new.lent.now.stores ≤ own.old.lent.now.stores + most_flights }
     ensures allowed { OnErr result (list_any (is_in own.old.place.trap) own.old.place.points.now ≡ true) }
     ensures place { own.new.place ≡ own.old.place }
     ensures same_reference { own.new.lent.ghost_name ≡ own.old.lent.ghost_name }

@@ -2,6 +2,7 @@
 #![tactic(auto)]
 
 mod abort_laws;
+mod count_laws;
 mod flights;
 mod laws;
 mod left;
@@ -16,6 +17,7 @@ mod survivors;
 pub use abort_laws::{
     built_kernels_are_revived, revived_kernels_are_of_abort, told_fates_are_of_abort,
 };
+pub use count_laws::tries_are_short;
 pub use laws::{revived_processes_are_outside, revived_records_decode};
 pub use plants::resurrect;
 pub use procedures::revive;

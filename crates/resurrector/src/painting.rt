@@ -1,11 +1,13 @@
 //! What is seen of the terminals of a kernel that takes over.
-ghost use Rattle.std.specs.Prelude.{◌≡◌, ◌+◌, ◌<◌, length, None, OnOk, OnErr, true};
+ghost use Rattle.std.specs.Prelude.{◌≡◌, ◌+◌, ◌<◌, ◌≤◌, length, None, Some, OnOk, OnErr, true};
 ghost use Rattle.std.specs.List.{list_any};
 ghost use Rattle.ow_plant.specs.Lent.{lent_tty};
 ghost use Rattle.ow_plant.specs.Owning.{own_words};
 ghost use Rattle.ow_plant.specs.Points.{is_in};
+ghost use Rattle.ow_plant.specs.declared.refusal.Refusal.TheVariants.{Store};
 ghost use Rattle.record_layouts.specs.Reading.{FitsMap, records_of};
 ghost use Rattle.record_layouts.specs.Terminals.{ShowsScreen, TerminalDecodes};
+ghost use Rattle.resurrector.specs.Counts.{display_stores, most_painted};
 ghost use Rattle.resurrector.specs.Painting.{ChangesDisplay, ChangesDisplays, ShowsRows};
 
 use ow_base::Panicked;
@@ -24,6 +26,8 @@ fn paint_row(own: &mut Own<'_>, map: &MemoryMap, tty: u32, r: u32) -> Result<(),
         → ShowsRows (records_of map.now (own_words own.old)) tty (r + 1) (lent_tty own.new.lent.now tty).display.rows) }
     ensures only { ChangesDisplay tty own.old.lent.now own.new.lent.now }
     ensures stays { OnOk result (own.new.lent.now.refusal ≡ None) }
+    ensures cause { OnErr result (own.new.lent.now.refusal ≡ Some Store) }
+    ensures counted { own.new.lent.now.stores ≤ own.old.lent.now.stores + 1 }
     ensures allowed { OnErr result (list_any (is_in own.old.place.trap) own.old.place.points.now ≡ true) }
     ensures place { own.new.place ≡ own.old.place }
     ensures same_reference { own.new.lent.ghost_name ≡ own.old.lent.ghost_name }
@@ -42,6 +46,8 @@ fn set_cursor(own: &mut Own<'_>, map: &MemoryMap, tty: u32) -> Result<(), Panick
         → ShowsScreen (records_of map.now (own_words own.old)) tty (lent_tty own.new.lent.now tty).display) }
     ensures only { ChangesDisplay tty own.old.lent.now own.new.lent.now }
     ensures stays { OnOk result (own.new.lent.now.refusal ≡ None) }
+    ensures cause { OnErr result (own.new.lent.now.refusal ≡ Some Store) }
+    ensures counted { own.new.lent.now.stores ≤ own.old.lent.now.stores + 1 }
     ensures allowed { OnErr result (list_any (is_in own.old.place.trap) own.old.place.points.now ≡ true) }
     ensures place { own.new.place ≡ own.old.place }
     ensures same_reference { own.new.lent.ghost_name ≡ own.old.lent.ghost_name }
@@ -60,6 +66,8 @@ fn paint_rows(own: &mut Own<'_>, map: &MemoryMap, tty: u32) -> Result<(), Panick
     ensures shown { OnOk result (ShowsRows (records_of map.now (own_words own.old)) tty 24 (lent_tty own.new.lent.now tty).display.rows) }
     ensures only { ChangesDisplay tty own.old.lent.now own.new.lent.now }
     ensures stays { OnOk result (own.new.lent.now.refusal ≡ None) }
+    ensures cause { OnErr result (own.new.lent.now.refusal ≡ Some Store) }
+    ensures counted { own.new.lent.now.stores ≤ own.old.lent.now.stores + 24 }
     ensures allowed { OnErr result (list_any (is_in own.old.place.trap) own.old.place.points.now ≡ true) }
     ensures place { own.new.place ≡ own.old.place }
     ensures same_reference { own.new.lent.ghost_name ≡ own.old.lent.ghost_name }
@@ -80,6 +88,8 @@ fn paint_terminal(own: &mut Own<'_>, map: &MemoryMap, tty: u32) -> Result<(), Pa
     ensures shown { OnOk result (ShowsScreen (records_of map.now (own_words own.old)) tty (lent_tty own.new.lent.now tty).display) }
     ensures only { ChangesDisplay tty own.old.lent.now own.new.lent.now }
     ensures stays { OnOk result (own.new.lent.now.refusal ≡ None) }
+    ensures cause { OnErr result (own.new.lent.now.refusal ≡ Some Store) }
+    ensures counted { own.new.lent.now.stores ≤ own.old.lent.now.stores + display_stores }
     ensures allowed { OnErr result (list_any (is_in own.old.place.trap) own.old.place.points.now ≡ true) }
     ensures place { own.new.place ≡ own.old.place }
     ensures same_reference { own.new.lent.ghost_name ≡ own.old.lent.ghost_name }
@@ -103,6 +113,8 @@ pub(crate) fn paint_terminals(own: &mut Own<'_>, map: &MemoryMap) -> Result<(), 
     ensures words { own_words own.new ≡ own_words own.old }
     ensures only { ChangesDisplays own.old.lent.now own.new.lent.now }
     ensures stays { OnOk result (own.new.lent.now.refusal ≡ None) }
+    ensures cause { OnErr result (own.new.lent.now.refusal ≡ Some Store) }
+    ensures counted { own.new.lent.now.stores ≤ own.old.lent.now.stores + most_painted }
     ensures allowed { OnErr result (list_any (is_in own.old.place.trap) own.old.place.points.now ≡ true) }
     ensures place { own.new.place ≡ own.old.place }
     ensures same_reference { own.new.lent.ghost_name ≡ own.old.lent.ghost_name }

@@ -1,5 +1,5 @@
 //! The resurrection of a kernel on the plant on which one panicked.
-ghost use Rattle.std.specs.Prelude.{◌≡◌, ℕ, ◌<◌, true, length, None, OnOk, OnErr, IfOk};
+ghost use Rattle.std.specs.Prelude.{◌≡◌, ℕ, ◌+◌, ◌<◌, ◌≤◌, true, length, None, Some, OnOk, OnErr, IfOk};
 ghost use Rattle.std.specs.List.{list_any};
 ghost use Rattle.dead_reader.specs.Left.{records_left};
 ghost use Rattle.kernel_builder.specs.Plan.{HasFrames};
@@ -8,10 +8,12 @@ ghost use Rattle.kernel_builder.specs.Sets.{IsBuilt};
 ghost use Rattle.ow_plant.specs.Lent.{lent_of, with_lent};
 ghost use Rattle.ow_plant.specs.Owning.{left_by, own_words};
 ghost use Rattle.ow_plant.specs.Points.{is_in};
+ghost use Rattle.ow_plant.specs.declared.refusal.Refusal.TheVariants.{Store};
 ghost use Rattle.ow_plant.specs.State.{IsArmed, tty_of};
 ghost use Rattle.phys_memory.specs.Halves.{words_beside};
 ghost use Rattle.record_layouts.specs.Reading.{FitsMap, records_of};
 ghost use Rattle.record_layouts.specs.Terminals.{ShowsScreen};
+ghost use Rattle.resurrector.specs.Counts.{most_stores};
 ghost use Rattle.resurrector.specs.Flights.{HasFlightRoom, IsTapeLeft, tape_put};
 ghost use Rattle.resurrector.specs.Plants.{own_map, own_words_in};
 ghost use Rattle.resurrector.specs.Revived.{fates_left, plan_of};
@@ -59,6 +61,8 @@ fn resurrect_lent<M: DeadMemory>(dead: &M, own: &mut Own<'_>) -> Result<Revival,
     ensures left1 { IsTapeLeft (records_left (M.dead dead.now) (M.words dead.now)) 1 own.old.lent.now.tty1.tape own.new.lent.now.tty1.tape }
     ensures room1 { own.new.lent.now.tty1.room ≡ own.old.lent.now.tty1.room }
     ensures stays { OnOk result (own.new.lent.now.refusal ≡ None) }
+    ensures cause { OnErr result (own.new.lent.now.refusal ≡ Some Store) }
+    ensures counted { own.new.lent.now.stores ≤ own.old.lent.now.stores + most_stores (M.dead dead.now).user_frames }
     ensures allowed { OnErr result (list_any (is_in own.old.place.trap) own.old.place.points.now ≡ true) }
     ensures place { own.new.place ≡ own.old.place }
     ensures same_reference { own.new.lent.ghost_name ≡ own.old.lent.ghost_name }
@@ -75,7 +79,8 @@ fn resurrect_lent<M: DeadMemory>(dead: &M, own: &mut Own<'_>) -> Result<Revival,
 /// processes that were live. A tape must have room for its byte in flight.
 ///
 /// `Panicked` comes where a store is refused, which is only where a panic is to come in the trap that was begun last; then
-/// each tape is as it was or longer by its byte in flight. At both answers every word of the dead kernel is as it was.
+/// each tape is as it was or longer by its byte in flight. At both answers every word of the dead kernel is as it was, and
+/// no more stores were made than `few` says.
 pub fn resurrect(plant: &mut Plant) -> Result<Revival, Panicked>
     requires armed { IsArmed plant.old }
     requires reviving { plant.old.reviving ≡ true }
@@ -97,6 +102,8 @@ pub fn resurrect(plant: &mut Plant) -> Result<Revival, Panicked>
     ensures rest { plant.new ≡ with_lent plant.old (lent_of plant.new) }
     ensures armed { IsArmed plant.new }
     ensures stays { OnOk result (plant.new.refusal ≡ None) }
+    ensures cause { OnErr result (plant.new.refusal ≡ Some Store) }
+    ensures few { plant.new.stores ≤ plant.old.stores + most_stores plant.old.shape.user_frames }
     ensures allowed { OnErr result (list_any (is_in plant.old.traps) plant.old.points ≡ true) }
 {
     // That a display has 24 rows is known from its calls alone.

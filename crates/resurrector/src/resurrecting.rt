@@ -1,9 +1,11 @@
 //! Building a kernel from what a panic left.
-ghost use Rattle.std.specs.Prelude.{◌≡◌, ◌++◌, ◌<◌, ◌≤◌, true, take, OnOk, OnErr, IfOk};
+ghost use Rattle.std.specs.Prelude.{◌≡◌, ◌+◌, ◌++◌, ◌<◌, ◌≤◌, true, Some, take, OnOk, OnErr, IfOk};
 ghost use Rattle.dead_reader.specs.Left.{handed_of};
+ghost use Rattle.kernel_builder.specs.Counts.{most_built};
 ghost use Rattle.kernel_builder.specs.Plan.{HasFrames};
 ghost use Rattle.kernel_builder.specs.Reading.{IsReadAs};
 ghost use Rattle.kernel_builder.specs.Sets.{IsBuilt, outside};
+ghost use Rattle.ow_plant.specs.declared.refusal.Refusal.TheVariants.{Store};
 ghost use Rattle.resurrector.specs.Revived.{fates_left, plan_of};
 ghost use Rattle.resurrector.specs.Survivors.{AreOutcomes, fates_to, told_of};
 
@@ -70,6 +72,8 @@ pub fn resurrect_into<M: DeadMemory, S: WordStore>(
     ensures outside { outside map.now (S.words own.new) ≡ outside map.now (S.words own.old) }
     ensures rest { S.rest own.new ≡ S.rest own.old }
     ensures stays { OnOk result (S.able own.new ≡ true) }
+    ensures cause { OnErr result (S.refusal own.new ≡ Some Store) }
+    ensures counted { S.made own.new ≤ S.made own.old + most_built map.now.user_frames }
     ensures allowed { OnErr result (S.may_refuse (S.rest own.old) ≡ true) }
     ensures place { S.place own.new ≡ S.place own.old }
 {

@@ -1,8 +1,9 @@
 //! A revival: a kernel is built of what a panic left, and takes over.
-ghost use Rattle.std.specs.Prelude.{◌≡◌, None, true, IfOk, OnErr, OnOk};
+ghost use Rattle.std.specs.Prelude.{◌≡◌, None, true, IfOk, OnErr, OnOk, Some};
 ghost use Rattle.std.specs.List.{list_any};
 ghost use Rattle.kernel_traps.specs.Plants.{IsSound, unix_at};
 ghost use Rattle.ow_plant.specs.Points.{is_in};
+ghost use Rattle.ow_plant.specs.declared.refusal.Refusal.TheVariants.{Store};
 ghost use Rattle.phys_memory.specs.Halves.{words_beside};
 ghost use Rattle.record_layouts.specs.Left.{HandedOver};
 ghost use Rattle.resurrector.specs.Flights.{IsTapeLeft};
@@ -28,6 +29,7 @@ pub fn revive(plant: &mut Plant) -> Result<Revival, Panicked>
     ensures left0 { IsTapeLeft (dead_records plant.old) 0 plant.old.tty0.tape plant.new.tty0.tape }
     ensures left1 { IsTapeLeft (dead_records plant.old) 1 plant.old.tty1.tape plant.new.tty1.tape }
     ensures reviving { OnErr result (plant.new.reviving ≡ true) }
+    ensures cause { OnErr result (plant.new.refusal ≡ Some Store) }
     ensures allowed { OnErr result (list_any (is_in plant.old.traps) plant.old.points ≡ true) }
     ensures shape { plant.new.shape ≡ plant.old.shape }
     ensures points { plant.new.points ≡ plant.old.points }

@@ -1,5 +1,5 @@
 //! Memory whose words are stored one by one.
-ghost use Rattle.std.specs.Prelude.{◌≡◌, ℕ, ◌*◌, ◌+◌, ◌/◌, ◌%◌, ◌<◌, true, OnOk, OnErr};
+ghost use Rattle.std.specs.Prelude.{◌≡◌, ℕ, ◌*◌, ◌+◌, ◌/◌, ◌%◌, ◌<◌, ◌≤◌, true, OnOk, OnErr};
 ghost use Rattle.ow_base.specs.Words.{updated};
 ghost use Rattle.record_layouts.specs.Held.{beside};
 ghost use Rattle.record_layouts.specs.Overlay.{HasArea, area_at};
@@ -12,7 +12,7 @@ use ow_base::{FRAME_WORDS, Panicked, WordSource};
 ///
 /// Contracts see its words and a rest, which no store changes. While `able` holds a store may be made; a refused one takes
 /// it away, and `refusal` tells it. The rest tells by `may_refuse` whether a store may be refused at all. `made` counts
-/// stores; where it is 0 none was made.
+/// stores: where it is 0 none was made, and one store more is at most one more.
 pub trait WordStore: WordSource {
     ghost use Rattle.std.specs.Prelude.{Bool, Option, is_some};
     ghost use Rattle.std.specs.Borrow.{GName};
@@ -44,6 +44,7 @@ pub trait WordStore: WordSource {
         ensures stays { OnOk result (able self.new ≡ true) }
         ensures cause { OnErr result (refusal self.new ≡ Some Store) }
         ensures unstored { KeepsUnstored (made self.old) (made self.new) (Self.words self.old) (Self.words self.new) }
+        ensures counted { made self.new ≤ made self.old + 1 }
         ensures allowed { OnErr result (may_refuse (rest self.old) ≡ true) }
         ensures place { place self.new ≡ place self.old };
 }
@@ -66,6 +67,7 @@ pub fn store_area<W: WordStore>(
     ensures stays { OnOk result (W.able store.new ≡ true) }
     ensures cause { OnErr result (W.refusal store.new ≡ Some Store) }
     ensures unstored { KeepsUnstored (W.made store.old) (W.made store.new) (W.words store.old) (W.words store.new) }
+    ensures counted { W.made store.new ≤ W.made store.old + 1 }
     ensures allowed { OnErr result (W.may_refuse (W.rest store.old) ≡ true) }
     ensures place { W.place store.new ≡ W.place store.old }
 {

@@ -1,4 +1,4 @@
-use Rattle.std.proofs.Common.{◌≡◌, ◌+◌, true}
+use Rattle.std.proofs.Common.{◌≡◌, ◌+◌, ◌≤◌, true}
 use Rattle.kernel_builder.specs.Sets.{HasFrame, with_frame, without}
 use Rattle.kernel_builder.proofs.building.copy_page.Given as goal
 
@@ -11,5 +11,6 @@ invariant-loop-word g l = record {
   there : HasFrame (g.S.WordSource.words l.store) (l.map.pool_base + l.frame);
   others : without (l.map.pool_base + l.frame) (g.S.WordSource.words l.store) ≡ without (l.map.pool_base + l.frame) (g.S.WordSource.words l.fn.store);
   rest : g.S.WordStore.rest l.store ≡ g.S.WordStore.rest l.fn.store;
+  counted : g.S.WordStore.made l.store ≤ g.S.WordStore.made l.fn.store + l.word;
   place : g.S.WordStore.place l.store ≡ g.S.WordStore.place l.fn.store;
 }

@@ -1,4 +1,4 @@
-use Rattle.std.proofs.Common.{◌≡◌, true}
+use Rattle.std.proofs.Common.{◌≡◌, ◌+◌, ◌≤◌, ◌*◌, true}
 use Rattle.kernel_builder.specs.Sets.{HasPool, with_pages, without_pool}
 use Rattle.kernel_builder.proofs.building.copy_pages.Given as goal
 
@@ -10,5 +10,6 @@ invariant-loop-frame g l = record {
   there : HasPool (g.S.WordSource.words l.store) l.map;
   others : without_pool l.map (g.S.WordSource.words l.store) ≡ without_pool l.map (g.S.WordSource.words l.fn.store);
   rest : g.S.WordStore.rest l.store ≡ g.S.WordStore.rest l.fn.store;
+  counted : g.S.WordStore.made l.store ≤ g.S.WordStore.made l.fn.store + 1024 * l.frame;
   place : g.S.WordStore.place l.store ≡ g.S.WordStore.place l.fn.store;
 }

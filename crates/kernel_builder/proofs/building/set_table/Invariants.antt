@@ -1,4 +1,4 @@
-use Rattle.std.proofs.Common.{◌≡◌, true}
+use Rattle.std.proofs.Common.{◌≡◌, ◌+◌, ◌≤◌, true}
 use Rattle.record_layouts.specs.Held.{beside}
 use Rattle.record_layouts.specs.Overlay.{HasArea, area_at}
 use Rattle.kernel_builder.specs.Sets.{with_table}
@@ -13,5 +13,6 @@ invariant-loop-word g l = record {
   there : HasArea (g.S.WordSource.words l.store) l.map.area_base;
   beside : beside l.map.area_base (g.S.WordSource.words l.store) ≡ beside l.map.area_base (g.S.WordSource.words l.fn.store);
   rest : g.S.WordStore.rest l.store ≡ g.S.WordStore.rest l.fn.store;
+  counted : g.S.WordStore.made l.store ≤ g.S.WordStore.made l.fn.store + l.word;
   place : g.S.WordStore.place l.store ≡ g.S.WordStore.place l.fn.store;
 }

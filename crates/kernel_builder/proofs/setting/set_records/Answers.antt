@@ -1,6 +1,7 @@
 use Rattle.std.proofs.Common.{◌∙◌}
 use Rattle.record_layouts.specs.Overlay.{area_at}
 use Rattle.kernel_builder.proofs.Sets.{records_more, unrecorded_stay}
+use Rattle.kernel_builder.proofs.Counts.{record_more, record_within}
 use Rattle.kernel_builder.proofs.setting.set_records.Goals as goal
 
 pub loop-number-preserved : goal.loop-number-preserved
@@ -20,5 +21,13 @@ loop-number-preserved g c =
       there = c.set_record.ensures.there;
       beside = c.set_record.ensures.beside ∙ c.loop-number.invariant.beside;
       rest = c.set_record.ensures.rest ∙ c.loop-number.invariant.rest;
+      counted = record_more id c.loop-number.number (g.S.WordStore.made c.args.store.now) (g.S.WordStore.made c.loop-number.store)
+          (g.S.WordStore.made c.set_record.new.store) there c.numbered_id-id.ensures.number c.loop-number.invariant.counted c.set_record.ensures.counted;
       place = c.set_record.ensures.place ∙ c.loop-number.invariant.place;
     }
+
+pub returns-in_err-set_record-clause-counted : goal.returns-in_err-set_record-clause-counted
+returns-in_err-set_record-clause-counted g c =
+    record_within c.numbered_id-id.result c.loop-number.number (g.S.WordStore.made c.args.store.now) (g.S.WordStore.made c.loop-number.store)
+    (g.S.WordStore.made c.set_record.new.store) c.numbered_id-id.ensures.there c.numbered_id-id.ensures.number c.loop-number.invariant.counted
+    c.set_record.ensures.counted

@@ -1,6 +1,7 @@
-use Rattle.std.proofs.Common.{◌≡◌, true}
+use Rattle.std.proofs.Common.{◌≡◌, ◌+◌, ◌≤◌, true}
 use Rattle.record_layouts.specs.Held.{beside}
 use Rattle.record_layouts.specs.Overlay.{HasArea, area_at}
+use Rattle.kernel_builder.specs.Counts.{words_below}
 use Rattle.kernel_builder.specs.Sets.{HasRecords, unrecorded}
 use Rattle.kernel_builder.proofs.setting.set_records.Given as goal
 
@@ -13,5 +14,6 @@ invariant-loop-number g l = record {
   there : HasArea (g.S.WordSource.words l.store) l.base;
   beside : beside l.base (g.S.WordSource.words l.store) ≡ beside l.base (g.S.WordSource.words l.fn.store);
   rest : g.S.WordStore.rest l.store ≡ g.S.WordStore.rest l.fn.store;
+  counted : g.S.WordStore.made l.store ≤ g.S.WordStore.made l.fn.store + words_below l.number;
   place : g.S.WordStore.place l.store ≡ g.S.WordStore.place l.fn.store;
 }

@@ -1,4 +1,4 @@
-use Rattle.std.proofs.Common.{◌≡◌, true}
+use Rattle.std.proofs.Common.{◌≡◌, ◌+◌, ◌≤◌, true}
 use Rattle.record_layouts.specs.Held.{beside}
 use Rattle.record_layouts.specs.Overlay.{HasArea, area_at}
 use Rattle.kernel_builder.specs.Sets.{with_first_words}
@@ -12,5 +12,6 @@ invariant-loop-place g l = record {
   there : HasArea (g.S.WordSource.words l.store) l.base;
   beside : beside l.base (g.S.WordSource.words l.store) ≡ beside l.base (g.S.WordSource.words l.fn.store);
   rest : g.S.WordStore.rest l.store ≡ g.S.WordStore.rest l.fn.store;
+  counted : g.S.WordStore.made l.store ≤ g.S.WordStore.made l.fn.store + l.place;
   place : g.S.WordStore.place l.store ≡ g.S.WordStore.place l.fn.store;
 }

@@ -6,6 +6,7 @@ use Rattle.ow_plant.specs.declared.refusal.Refusal.TheVariants.{Store}
 use Rattle.word_store.proofs.Outcomes.{either_way, on_err, on_ok, told_by}
 use Rattle.word_store.proofs.Owned.{refused_of_own}
 use Rattle.resurrector.proofs.InFlight.{leaves_put, leaves_refused, tape_of_none, tape_of_put}
+use Rattle.resurrector.proofs.Painted.{none_counted, one_counted, refusal_stands}
 use Rattle.resurrector.proofs.flights.put_in_flight.Goals as goal
 
 pub returns-in-Some-clause-put : goal.returns-in-Some-clause-put
@@ -40,3 +41,14 @@ returns-in-None-clause-put g c =
     let r = records_left dead (g.M.WordSource.words c.args.dead.now) in
     tape_of_none r c.args.tty (dead.counts c.args.tty) c.args.own.now.lent.now c.args.own.now.lent.now c.requires.counted
     (λ byte flight. c.in-None.ensures.none byte (rw c.new.ensures flight))
+
+pub returns-in-Some-clause-counted : goal.returns-in-Some-clause-counted
+returns-in-Some-clause-counted g c =
+    let own = c.args.own.now in
+    either_way c.put.result _
+    (on_ok c.put.result _ _ (λ e. one_counted own.lent.now c.put.new.self.lent.now c.args.tty _ e) c.put.ensures.ok)
+    (on_err c.put.result _ _ (λ e. none_counted own.lent.now c.put.new.self.lent.now Store e) c.put.ensures.err)
+
+pub returns-in-Some-clause-cause : goal.returns-in-Some-clause-cause
+returns-in-Some-clause-cause g c =
+    on_err c.put.result _ _ (λ e. refusal_stands c.args.own.now.lent.now c.put.new.self.lent.now Store c.requires.able e) c.put.ensures.err

@@ -40,3 +40,7 @@ returns-in_err-take_over-clause-allowed c =
     at_err c.from_residual-in_err-take_over.result _
     (refused_later c.args.plant.now c.resurrect.new.plant c.in_ok-revival.ensures.rest c.in_ok-revival.ensures.armed c.in_ok-revival.ensures.stays
     (c.in_err-take_over.ensures.exact.1 refl))
+
+pub returns-in_err-take_over-clause-cause : goal.returns-in_err-take_over-clause-cause
+returns-in_err-take_over-clause-cause c =
+    at_err c.from_residual-in_err-take_over.result _ (c.in_err-take_over.ensures.cause c.in_ok-revival.ensures.stays)
