@@ -164,7 +164,7 @@ write_kept s new steps tty from len bytes items put trap most step ends low shor
     }
 
 -- a service is carried out
-kept : (s new : PlantState) (steps slot : ℕ) (plan : Planned) → IsInTrap s steps → s.shape.budget ≤ 2000000 → HasStep plan steps s.steps → EndsTrap (records_held s) s.traps plan → IsShort plan
+pub kept : (s new : PlantState) (steps slot : ℕ) (plan : Planned) → IsInTrap s steps → s.shape.budget ≤ 2000000 → HasStep plan steps s.steps → EndsTrap (records_held s) s.traps plan → IsShort plan
     → IsCarriedOut s slot plan (held_of new) → IsKept s new
 kept s new steps slot (PlanOnce items) trap most step ends short is = once_kept s new steps items trap ends is
 kept s new steps slot (PlanWrite tty from len items) trap most step ends (low, short) (put, is, last) =

@@ -1,6 +1,6 @@
 -- The lemmas of the crate: bytes that are put and how a service is done; a trap that begins, and records and terminals
 -- that are sound once it is carried out; the words of a kernel that runs, and a process in user mode, whose stores are
--- seen by itself alone; and what boot leaves.
+-- seen by itself alone; what boot leaves; and what is left in the Unix of a trap that a panic broke.
 pub mod Puts
 pub mod Done
 pub mod Entering
@@ -38,3 +38,8 @@ pub mod UserServed
 pub mod KernelServed
 pub mod SoundImages
 pub mod Entries
+pub mod LeftRecords
+pub mod LeftPut
+pub mod LeftPlans
+pub mod LeftTraps
+pub mod LeftUnix
