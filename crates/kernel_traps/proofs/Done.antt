@@ -17,12 +17,12 @@ use Rattle.ow_plant.specs.Images.{tapes_of}
 use Rattle.kernel_traps.specs.Putting.{AreCounted, CountsBytes, counted_after, with_puts}
 use Rattle.kernel_traps.specs.Carrying.{IsCarriedOut, bytes_of}
 
-own_tape : (s : PlantState) (tty : ℕ) (bytes : List ℕ) → tty < 2 → tapes_of (with_puts s tty bytes) tty ≡ tapes_of s tty ++ bytes
+pub own_tape : (s : PlantState) (tty : ℕ) (bytes : List ℕ) → tty < 2 → tapes_of (with_puts s tty bytes) tty ≡ tapes_of s tty ++ bytes
 own_tape s zero bytes low = refl
 own_tape s (suc zero) bytes low = refl
 own_tape s (suc (suc n)) bytes low = absurd (omega arith)
 
-other_tape : (s : PlantState) (tty other : ℕ) (bytes : List ℕ) → tty < 2 → other ≢ tty → tapes_of (with_puts s tty bytes) other ≡ tapes_of s other
+pub other_tape : (s : PlantState) (tty other : ℕ) (bytes : List ℕ) → tty < 2 → other ≢ tty → tapes_of (with_puts s tty bytes) other ≡ tapes_of s other
 other_tape s tty other bytes low apart = grind (arith, nat_tests, common_steps, apart)
 
 -- a count that does not stand still
@@ -48,7 +48,7 @@ told bytes tape before after counted small counts =
       decoded = tape_counted (tape ++ bytes) after now ∙ ap (λ (t : List ℕ). t ++ bytes) (sym (tape_counted tape before counted));
     }
 
-told_by : (bytes tape : List ℕ) (before after : Option TermRec) → IfSome before (λ terminal. terminal.written ≡ length tape) → length tape + length bytes < 2 ^ 32
+pub told_by : (bytes tape : List ℕ) (before after : Option TermRec) → IfSome before (λ terminal. terminal.written ≡ length tape) → length tape + length bytes < 2 ^ 32
     → AreCounted bytes before after → AreCountedBy bytes tape (tape ++ bytes) before after
 told_by bytes tape (Some before) (Some after) counted small counts = told bytes tape before after counted small counts
 told_by bytes tape (Some before) None counted small counts = absurd counts

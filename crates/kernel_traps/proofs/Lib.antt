@@ -1,6 +1,7 @@
 -- The lemmas of the crate: bytes that are put and how a service is done; a trap that begins, and records and terminals
 -- that are sound once it is carried out; the words of a kernel that runs, and a process in user mode, whose stores are
--- seen by itself alone; what boot leaves; and that what a refusal leaves of a trap is sound at a panic.
+-- seen by itself alone; what boot leaves; and that what a refusal leaves of a trap is sound at a panic, and which state of
+-- the Unix it is.
 pub mod Puts
 pub mod Done
 pub mod Entering
@@ -42,3 +43,8 @@ pub mod UserServed
 pub mod KernelServed
 pub mod SoundImages
 pub mod Entries
+pub mod LeftRecords
+pub mod LeftPut
+pub mod LeftPlans
+pub mod LeftTraps
+pub mod LeftUnix

@@ -17,7 +17,7 @@ pub drawn_all-then : (screen : Screen) (xs ys : List ℕ) → drawn_all screen (
 drawn_all-then screen [] ys = refl
 drawn_all-then screen (x ∷ xs) ys = drawn_all-then (drawn screen x) xs ys
 
-last_of-then : (last : ℕ) (xs ys : List ℕ) → last_of last (xs ++ ys) ≡ last_of (last_of last xs) ys
+pub last_of-then : (last : ℕ) (xs ys : List ℕ) → last_of last (xs ++ ys) ≡ last_of (last_of last xs) ys
 last_of-then last [] ys = refl
 last_of-then last (x ∷ xs) ys = last_of-then x xs ys
 

@@ -52,7 +52,7 @@ head_there (Some head) some = (head, refl)
 head_there None some = cc
 
 -- the record in the slot of a trap
-there_in : (r : Records) (held : Option ℕ) (slot : ℕ) (process : ProcRec) → IsSlotOf r held slot process → r.procs slot ≡ Some process
+pub there_in : (r : Records) (held : Option ℕ) (slot : ℕ) (process : ProcRec) → IsSlotOf r held slot process → r.procs slot ≡ Some process
 there_in r (Some pid) slot process seat = seat.0.there
 there_in r None slot process seat = seat.1
 
@@ -185,7 +185,7 @@ module _ (s : PlantState) (sound : IsSound s) (slot : ℕ) (head : HeadRec) (pro
   no_step : (r : Records) → unix_with r (tapes_of s) (s.steps + 0) ≡ unix_with r (tapes_of s) s.steps
   no_step r = ap (unix_with r (tapes_of s)) (let same : s.steps + 0 ≡ s.steps = omega arith in same)
 
-  law : (t : Trap) (done : Records) (tapes : ℕ → List ℕ) → IsInMode s (user_before t) → CanHave (records_held s) t slot process
+  pub law : (t : Trap) (done : Records) (tapes : ℕ → List ℕ) → IsInMode s (user_before t) → CanHave (records_held s) t slot process
       → IsDoneBy (plan_for (begun_by s t) t slot head process) done tapes → unix_with done tapes (s.steps + steps_in t) ≡ after_trap (unix_at s) t
   unfolding after_trap
   law (trap.Entry pid) done tapes mode has made =

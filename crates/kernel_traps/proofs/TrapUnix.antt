@@ -39,7 +39,7 @@ pub record IsCarrier (old new : PlantState) : Type 0 where
   pub steps : new.steps ≡ old.steps
   pub traps : new.traps ≡ old.traps
 
-by_rest : (old new : PlantState) (tty0 tty1 : Device) → beside (records_held new).map.area_base (words_of new.memory) ≡ beside (records_held old).map.area_base (words_of old.memory)
+pub by_rest : (old new : PlantState) (tty0 tty1 : Device) → beside (records_held new).map.area_base (words_of new.memory) ≡ beside (records_held old).map.area_base (words_of old.memory)
     → rest_of new ≡ record (rest_of old) { tty0 = tty0; tty1 = tty1 } → IsCarrier old new
 by_rest old new tty0 tty1 contents rest = record {
   contents = contents;
@@ -63,7 +63,7 @@ carrier old new slot (PlanWrite tty from len items) (put, is, last) =
 map_still : (old new : PlantState) → IsCarrier old new → (records_held new).map ≡ (records_held old).map
 map_still old new is = map_held new ∙ (let same : map_of new ≡ map_of old = rw (is.shape, is.live) refl in same) ∙ sym (map_held old)
 
-words_still : (old new : PlantState) → IsCarrier old new
+pub words_still : (old new : PlantState) → IsCarrier old new
     → beside (records_held new).map.area_base (words_of new.memory) ≡ beside (records_held new).map.area_base (words_of old.memory)
 words_still old new is = is.contents ∙ ap (λ (m : MemoryMap). beside m.area_base (words_of old.memory)) (sym (map_still old new is))
 
@@ -75,17 +75,17 @@ unix_left old new is kernel =
     ∙ (let out : context_of new ≡ InKernel = rw (is.in_user ∙ kernel) refl in rw (out, is.steps, is.traps) refl)
 
 -- what is done of the records of a service
-length-bytes : (pages : Pages) (a n : ℕ) → length (bytes_at pages a n) ≡ n
+pub length-bytes : (pages : Pages) (a n : ℕ) → length (bytes_at pages a n) ≡ n
 unfolding bytes_at
 length-bytes pages a zero = refl
 length-bytes pages a (suc n) = ap suc (length-bytes pages (a + 1) n)
 
-same_device : (s : PlantState) (tty : ℕ) → tty < 2 → tapes_of s tty ≡ (tty_of s tty).tape
+pub same_device : (s : PlantState) (tty : ℕ) → tty < 2 → tapes_of s tty ≡ (tty_of s tty).tape
 same_device s zero low = refl
 same_device s (suc zero) low = refl
 same_device s (suc (suc n)) low = absurd (omega (arith, low))
 
-told_by_device : (s : PlantState) (tty : ℕ) (held : Option TermRec) → tty < 2 → IfSome held (IsOfDevice (records_held s) tty (tty_of s tty))
+pub told_by_device : (s : PlantState) (tty : ℕ) (held : Option TermRec) → tty < 2 → IfSome held (IsOfDevice (records_held s) tty (tty_of s tty))
     → IfSome held (λ terminal. terminal.written ≡ length (tapes_of s tty))
 told_by_device s tty (Some terminal) low is = is.tape.counted ∙ sym (ap (λ (t : List ℕ). length t) (same_device s tty low))
 told_by_device s tty None low is = tt
