@@ -239,24 +239,11 @@ impl SoFar {
             Key::Data => self.with_values(line),
             Key::Start => self.with_start(line),
             Key::Panic => self.with_panic(alloc, line),
-            _ => {
-                let SoFar {
-                    last: _,
-                    shape,
-                    finished,
-                    opened,
-                    starts,
-                    panics,
-                } = self;
-                Ok(SoFar {
-                    last: Some(key),
-                    shape: with_limit(key, line.number(1), shape),
-                    finished,
-                    opened,
-                    starts,
-                    panics,
-                })
-            }
+            _ => Ok(SoFar {
+                last: Some(key),
+                shape: with_limit(key, line.number(1), self.shape),
+                ..self
+            }),
         }
     }
 
@@ -267,21 +254,11 @@ impl SoFar {
         requires room { length (programs_of self) < 16 }
         ensures { IfOk result (λ so_far. so_far ≡ with_line self line.now) }
     {
-        let SoFar {
-            last: _,
-            shape,
-            finished,
-            opened,
-            starts,
-            panics,
-        } = self;
         Ok(SoFar {
             last: Some(Key::Program),
-            shape,
-            finished: finished_with(finished, opened)?,
+            finished: finished_with(self.finished, self.opened)?,
             opened: Some(Block::new(alloc, line.token(1))?),
-            starts,
-            panics,
+            ..self
         })
     }
 
@@ -291,21 +268,10 @@ impl SoFar {
         requires code { key line.now ≡ CodeKey }
         ensures { IfOk result (λ so_far. so_far ≡ with_line self line.now) }
     {
-        let SoFar {
-            last: _,
-            shape,
-            finished,
-            opened,
-            starts,
-            panics,
-        } = self;
         Ok(SoFar {
             last: Some(Key::Code),
-            shape,
-            finished,
-            opened: opened_with_code(opened, line)?,
-            starts,
-            panics,
+            opened: opened_with_code(self.opened, line)?,
+            ..self
         })
     }
 
@@ -315,21 +281,10 @@ impl SoFar {
         requires values { key line.now ≡ DataKey }
         ensures { IfOk result (λ so_far. so_far ≡ with_line self line.now) }
     {
-        let SoFar {
-            last: _,
-            shape,
-            finished,
-            opened,
-            starts,
-            panics,
-        } = self;
         Ok(SoFar {
             last: Some(Key::Data),
-            shape,
-            finished,
-            opened: opened_with_values(opened, line)?,
-            starts,
-            panics,
+            opened: opened_with_values(self.opened, line)?,
+            ..self
         })
     }
 
@@ -339,23 +294,14 @@ impl SoFar {
         requires start { key line.now ≡ StartKey }
         ensures { IfOk result (λ so_far. so_far ≡ with_line self line.now) }
     {
-        let SoFar {
-            last: _,
-            shape,
-            finished,
-            opened,
-            starts,
-            panics,
-        } = self;
-        let finished = finished_with(finished, opened)?;
-        let starts = starts_with(starts, &finished, line)?;
+        let finished = finished_with(self.finished, self.opened)?;
+        let starts = starts_with(self.starts, &finished, line)?;
         Ok(SoFar {
             last: Some(Key::Start),
-            shape,
             finished,
             opened: None,
             starts,
-            panics,
+            ..self
         })
     }
 
@@ -365,21 +311,10 @@ impl SoFar {
         requires panic { key line.now ≡ PanicKey }
         ensures { IfOk result (λ so_far. so_far ≡ with_line self line.now) }
     {
-        let SoFar {
-            last: _,
-            shape,
-            finished,
-            opened,
-            starts,
-            panics,
-        } = self;
         Ok(SoFar {
             last: Some(Key::Panic),
-            shape,
-            finished,
-            opened,
-            starts,
-            panics: panics_with(alloc, panics, line)?,
+            panics: panics_with(alloc, self.panics, line)?,
+            ..self
         })
     }
 
