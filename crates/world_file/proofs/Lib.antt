@@ -21,10 +21,12 @@ pub mod WorldHead
 pub mod WorldBlocksRead
 pub mod WorldBlocks
 pub mod WorldKeys
+pub mod WorldPanics
 pub mod WorldAccepts
 pub mod WorldSaid
 pub mod WorldHeadSteps
 pub mod WorldBlockSteps
+pub mod WorldPanicSteps
 pub mod WorldStarted
 pub mod WorldFound
 pub mod WorldLaws

@@ -16,7 +16,7 @@ use Rattle.world_file.proofs.DamagesUnique.{number_unique, free_number, damage_k
 abbrev again_key : ℕ
 again_key = opening (codes "again")
 
-abbrev IsWord : ℕ → Type 0
+abbrev pub IsWord : ℕ → Type 0
 IsWord n = n < 2 ^ 32
 
 agains_unique : AreUnique (IsLineOf again_line IsWord) again_key Anything
@@ -28,10 +28,10 @@ agains_unique = record {
 }
 
 -- the panic line itself
-abbrev panic_text : (trap store : ℕ) → List ℕ
+abbrev pub panic_text : (trap store : ℕ) → List ℕ
 panic_text trap store = spaced (spaced (codes "panic") (decimal trap)) (decimal store)
 
-free_panic : (trap store : ℕ) → IsWord trap → IsWord store → free 10 (panic_text trap store) ≡ true
+pub free_panic : (trap store : ℕ) → IsWord trap → IsWord store → free 10 (panic_text trap store) ≡ true
 free_panic trap store small_trap small_store = free_number (spaced (codes "panic") (decimal trap)) store small_store (free_number (codes "panic") trap small_trap refl)
 
 panic_line_unique : (j k m n : ℕ) (r t : List ℕ) → IsWord j → IsWord k → IsWord m → IsWord n → line (panic_text j m) ++ r ≡ line (panic_text k n) ++ t → (j ≡ k) × (m ≡ n) × (r ≡ t)
@@ -59,7 +59,7 @@ no_damage : (frames : ℕ) (text r : List ℕ) (panic : PanicLine) → IsPanic f
 no_damage frames text r panic is end =
     opening_by (IsLineOf again_line IsWord) again_key IsNoDamage agains_unique.opens (flat_map again_line panic.agains) panic.agains r (agains_are frames text panic is) (λ e. omega (arith, e)) end
 
-abbrev panic_with : (trap store : ℕ) (damages : List Damage) (agains : List ℕ) → PanicLine
+abbrev pub panic_with : (trap store : ℕ) (damages : List Damage) (agains : List ℕ) → PanicLine
 panic_with trap store damages agains = record { trap = trap; store = store; damages = damages; agains = agains }
 
 panic_one : (frames : ℕ) → frames ≤ 384 → (text_a text_b : List ℕ) (a b : PanicLine) (r t : List ℕ) → IsPanic frames text_a a → IsPanic frames text_b b

@@ -7,7 +7,7 @@ use Rattle.std.proofs.lemmas.List.Elements.{recursion_from_All}
 use Rattle.std.proofs.lemmas.Option.{slice_get_within, get_or_from_slice_get}
 use Rattle.std.proofs.lemmas.Slice.Eq.{bytes_eq-Decides}
 use Rattle.ow_base.specs.Lines.{line, spaced}
-use Rattle.ow_base.specs.World.{AreTexts, IsName, IsProgram, IsStart, IsWorld, IsFile, IsPanic, IsTyped, Typed, typed_on, type_line, head_lines, start_line, pages_of_found, start_pages}
+use Rattle.ow_base.specs.World.{AreTexts, IsName, IsProgram, IsStart, IsWorld, IsFile, IsTyped, Typed, typed_on, type_line, head_lines, start_line, pages_of_found, start_pages}
 use Rattle.ow_base.specs.declared.machine.Shape.{Shape}
 use Rattle.ow_base.specs.declared.worlds.World.{World}
 use Rattle.ow_base.specs.declared.worlds.FileText.{FileText}
@@ -26,10 +26,11 @@ use Rattle.world_file.proofs.WorldPieces.{free-append}
 use Rattle.world_file.proofs.WorldNumbers.{number_of_accepts, bytes_eq_self}
 use Rattle.world_file.proofs.WorldFields.{free_decimal, free_name, name_accepts, le_is_true, lt_is_true, lt_is_false}
 use Rattle.world_file.proofs.WorldSpelled.{three_words, some_number, some_text}
-use Rattle.world_file.proofs.WorldPassed.{IsPassed, Reads, reads_line, reads_end}
+use Rattle.world_file.proofs.WorldPassed.{IsPassed, Reads, reads_line}
 use Rattle.world_file.proofs.WorldHead.{at_head, head_read}
 use Rattle.world_file.proofs.WorldBlocksRead.{at_program, EndsBlock}
 use Rattle.world_file.proofs.WorldBlocks.{NamesApart, not_same, block_read, blocks_read}
+use Rattle.world_file.proofs.WorldPanics.{at_panic, start_ends, all_bare, panics_read}
 use Rattle.world_file.proofs.WorldStarts.{pages_of, pages_push, pages_front}
 use Rattle.world_file.proofs.ProgramsUnique.{AreNamed, all_named}
 
@@ -53,7 +54,7 @@ any_of_name programs i p found =
 
 -- what is said where a start line may come
 abbrev pub before_start : Key → Shape → (done : List Program) → Option Program → List Started → Facts
-before_start last shape done current starts = record { last = Some last; shape = shape; finished = done; opened = current; starts = starts }
+before_start last shape done current starts = record { last = Some last; shape = shape; finished = done; opened = current; starts = starts; panics = [] }
 
 -- what is said behind a start line
 abbrev pub at_start : Shape → List Program → List Started → Facts
@@ -101,6 +102,7 @@ start_passed k shape done o before l p start starts w is few fits =
       hex = rw key refl;
       once = rw key refl;
       program = rw (key, w, any) refl;
+      order = rw key refl;
       frames = rw (key, w, by_name) enough;
     }
 
@@ -130,10 +132,6 @@ start_read k shape done o programs before p start rest world starts whole is few
     reads_line (before_start k shape done o before) l rest world free_l (start_passed k shape done o before l p start starts w here few room) refl
     (subst (λ f. Reads f rest world) (sym said) more)
 
-end_passed : (shape : Shape) (programs : List Program) (starts : List Started) → IsPassed (at_start shape programs starts) (codes "end")
-unfolding tokens pieces key_of
-end_passed shape programs starts = record { first = refl; built = refl; word = refl; count = refl; fields = refl; number = refl; name = refl; hex = refl; once = refl; program = refl; frames = refl }
-
 -- starts that may all stand
 pub record AreStarts (shape : Shape) (programs : List Program) (starts : List Started) : Type 0 where
   pub apart : NamesApart programs
@@ -145,49 +143,44 @@ named_start : (shape : Shape) (programs : List Program) (starts : List Started) 
 named_start shape programs starts text start are is =
     record { apart = are.apart; found = is.found; named = are.named start.program is.program is.found; tty = is.tty }
 
--- behind some starts, others and the end
-starts_more : (shape : Shape) (programs : List Program) (before : List Started) (text : List ℕ) (starts : List Started) → AreTexts (IsStart programs) text starts → AreStarts shape programs (before ++ starts)
-    → Reads (at_start shape programs before) (text ++ line (codes "end")) (world_of (at_start shape programs (before ++ starts)))
+-- behind some starts, others and what is behind them
+starts_more : (shape : Shape) (programs : List Program) (before : List Started) (text : List ℕ) (starts : List Started) (rest : List ℕ) (world : World) → AreTexts (IsStart programs) text starts → AreStarts shape programs (before ++ starts)
+    → Reads (at_start shape programs (before ++ starts)) rest world → Reads (at_start shape programs before) (text ++ rest) world
 unfolding AreTexts
-starts_more shape programs before text [] texts are =
-    let same : before ++ [] ≡ before = append-nil before in
-    subst (λ t. Reads (at_start shape programs before) (t ++ line (codes "end")) (world_of (at_start shape programs (before ++ [])))) (sym texts)
-    (subst (λ ss. Reads (at_start shape programs before) (line (codes "end")) (world_of (at_start shape programs ss))) (sym same)
-    (reads_end (at_start shape programs before) (end_passed shape programs before)))
-starts_more shape programs before text (start ∷ starts) texts are =
+starts_more shape programs before text [] rest world texts are ends =
+    subst (λ t. Reads (at_start shape programs before) (t ++ rest) world) (sym texts) (subst (λ ss. Reads (at_start shape programs ss) rest world) (append-nil before) ends)
+starts_more shape programs before text (start ∷ starts) rest world texts are ends =
     let front = texts.0 in
     let others = texts.1 in
     let is = texts.3 in
     let here = start_line is.program start in
-    let said = world_of (at_start shape programs (before ++ start ∷ starts)) in
     let joined : (before ++ start ∷ []) ++ starts ≡ before ++ start ∷ starts = append_assoc before (start ∷ []) starts in
     let few : length before < 16 = omega (arith, are.few, length-append before (start ∷ starts)) in
     let fits : start_pages programs (before ++ start ∷ []) ≤ shape.user_frames = omega (arith, are.fits, pages_front programs (before ++ start ∷ []) starts, ap (start_pages programs) joined) in
-    let more = starts_more shape programs (before ++ start ∷ []) others starts texts.4 (subst (AreStarts shape programs) (sym joined) are) in
-    let ends = subst (λ ss. Reads (at_start shape programs (before ++ start ∷ [])) (others ++ line (codes "end")) (world_of (at_start shape programs ss))) joined more in
-    let read = start_read Start shape programs None programs before is.program start (others ++ line (codes "end")) said (λ c. refl) (append-nil programs)
-    (named_start shape programs (before ++ start ∷ starts) front start are is) few fits ends in
-    let spelled : here ++ (others ++ line (codes "end")) ≡ text ++ line (codes "end") =
-    sym (ap (λ t. t ++ line (codes "end")) (texts.2 ∙ ap (λ t. t ++ others) is.spelled) ∙ append_assoc here others (line (codes "end"))) in
-    subst (λ t. Reads (at_start shape programs before) t said) spelled read
+    let more = starts_more shape programs (before ++ start ∷ []) others starts rest world texts.4 (subst (AreStarts shape programs) (sym joined) are)
+    (subst (λ ss. Reads (at_start shape programs ss) rest world) (sym joined) ends) in
+    let read = start_read Start shape programs None programs before is.program start (others ++ rest) world (λ c. refl) (append-nil programs)
+    (named_start shape programs (before ++ start ∷ starts) front start are is) few fits more in
+    let spelled : here ++ (others ++ rest) ≡ text ++ rest =
+    sym (ap (λ t. t ++ rest) (texts.2 ∙ ap (λ t. t ++ others) is.spelled) ∙ append_assoc here others rest) in
+    subst (λ t. Reads (at_start shape programs before) t world) spelled read
 
--- behind the blocks, the starts and the end
-starts_read : (k : Key) (shape : Shape) (done : List Program) (o : Option Program) (programs : List Program) (text : List ℕ) (starts : List Started) → Starts k → done ++ option_to_list o ≡ programs
-    → 1 ≤ length starts → AreTexts (IsStart programs) text starts → AreStarts shape programs starts
-    → Reads (at_program k shape done o) (text ++ line (codes "end")) (world_of (at_start shape programs starts))
+-- behind the blocks, the starts and what is behind them
+starts_read : (k : Key) (shape : Shape) (done : List Program) (o : Option Program) (programs : List Program) (text : List ℕ) (starts : List Started) (rest : List ℕ) (world : World) → Starts k
+    → done ++ option_to_list o ≡ programs → 1 ≤ length starts → AreTexts (IsStart programs) text starts → AreStarts shape programs starts
+    → Reads (at_start shape programs starts) rest world → Reads (at_program k shape done o) (text ++ rest) world
 unfolding AreTexts
-starts_read k shape done o programs text [] may whole some texts are = absurd (omega arith)
-starts_read k shape done o programs text (start ∷ starts) may whole some texts are =
+starts_read k shape done o programs text [] rest world may whole some texts are ends = absurd (omega arith)
+starts_read k shape done o programs text (start ∷ starts) rest world may whole some texts are ends =
     let others = texts.1 in
     let is = texts.3 in
     let here = start_line is.program start in
-    let said = world_of (at_start shape programs (start ∷ starts)) in
     let fits : start_pages programs (start ∷ []) ≤ shape.user_frames = omega (arith, are.fits, pages_front programs (start ∷ []) starts) in
-    let read = start_read k shape done o programs [] is.program start (others ++ line (codes "end")) said may whole
-    (named_start shape programs (start ∷ starts) texts.0 start are is) (omega arith) fits (starts_more shape programs (start ∷ []) others starts texts.4 are) in
-    let spelled : here ++ (others ++ line (codes "end")) ≡ text ++ line (codes "end") =
-    sym (ap (λ t. t ++ line (codes "end")) (texts.2 ∙ ap (λ t. t ++ others) is.spelled) ∙ append_assoc here others (line (codes "end"))) in
-    subst (λ t. Reads (at_program k shape done o) t said) spelled read
+    let read = start_read k shape done o programs [] is.program start (others ++ rest) world may whole
+    (named_start shape programs (start ∷ starts) texts.0 start are is) (omega arith) fits (starts_more shape programs (start ∷ []) others starts rest world texts.4 are ends) in
+    let spelled : here ++ (others ++ rest) ≡ text ++ rest =
+    sym (ap (λ t. t ++ rest) (texts.2 ∙ ap (λ t. t ++ others) is.spelled) ∙ append_assoc here others rest) in
+    subst (λ t. Reads (at_program k shape done o) t world) spelled read
 
 front_empty : {A : Type 0} (a b : List A) → a ++ b ≡ [] → a ≡ []
 front_empty [] b h = refl
@@ -224,16 +217,16 @@ with_lists shape files programs starts typed0 typed1 panics = record {
 }
 
 -- a world is what is said up to its end
-same_world : (world : World) → IsBuilt world → world_of (at_start world.load.shape world.load.programs world.load.starts) ≡ world
+same_world : (world : World) → IsBuilt world → world_of (at_panic world.load.shape world.load.programs world.load.starts world.panics) ≡ world
 same_world world built =
     let shape = world.load.shape in
     let programs = world.load.programs in
     let starts = world.load.starts in
-    ap (λ ps. with_lists shape [] ps starts [] [] []) (append-nil programs)
-    ∙ ap (λ fs. with_lists shape fs programs starts [] [] []) (sym built.no_files)
-    ∙ ap (λ ts. with_lists shape world.load.files programs starts ts [] []) (sym built.no_typed0)
-    ∙ ap (λ ts. with_lists shape world.load.files programs starts world.typed0 ts []) (sym built.no_typed1)
-    ∙ ap (λ ps. with_lists shape world.load.files programs starts world.typed0 world.typed1 ps) (sym built.no_panics)
+    let panics = world.panics in
+    ap (λ ps. with_lists shape [] ps starts [] [] panics) (append-nil programs)
+    ∙ ap (λ fs. with_lists shape fs programs starts [] [] panics) (sym built.no_files)
+    ∙ ap (λ ts. with_lists shape world.load.files programs starts ts [] panics) (sym built.no_typed0)
+    ∙ ap (λ ts. with_lists shape world.load.files programs starts world.typed0 ts panics) (sym built.no_typed1)
 
 -- the blocks and what is behind them
 blocks_end : (shape : Shape) (text : List ℕ) (programs : List Program) (rest : List ℕ) (world : World) → 1 ≤ length programs → length programs ≤ 16 → NamesApart programs → AreTexts IsProgram text programs
@@ -256,18 +249,18 @@ world_accepted text world is built =
     let programs = world.load.programs in
     let starts = world.load.starts in
     let are : AreStarts shape programs starts = record { apart = is.program_names; named = all_named is.programs_text programs is.programs; few = is.most_starts; fits = is.frames } in
-    let rest = is.starts_text ++ line (codes "end") in
-    let said = world_of (at_start shape programs starts) in
+    let end = is.panics_text ++ line (codes "end") in
+    let rest = is.starts_text ++ end in
+    let said = world_of (at_panic shape programs starts world.panics) in
     let typed = nothing_typed is.typed (recursion_from_All IsTyped is.typed is.each_typed) (sym is.typed0_is ∙ built.no_typed0) (sym is.typed1_is ∙ built.no_typed1) in
     let no_files = no_texts IsFile is.files_text world.load.files built.no_files is.files in
-    let no_panics = no_texts (IsPanic shape.user_frames) is.panics_text world.panics built.no_panics is.panics in
     let spelled : text ≡ head_lines shape ++ (is.programs_text ++ rest) =
     is.spelled
     ∙ ap (λ fs. head_lines shape ++ (fs ++ (is.programs_text ++ (is.starts_text ++ (flat_map type_line is.typed ++ (is.panics_text ++ line (codes "end"))))))) no_files
-    ∙ ap (λ ts. head_lines shape ++ (is.programs_text ++ (is.starts_text ++ (flat_map type_line ts ++ (is.panics_text ++ line (codes "end")))))) typed
-    ∙ ap (λ ps. head_lines shape ++ (is.programs_text ++ (is.starts_text ++ (ps ++ line (codes "end"))))) no_panics in
+    ∙ ap (λ ts. head_lines shape ++ (is.programs_text ++ (is.starts_text ++ (flat_map type_line ts ++ end)))) typed in
+    let ends = panics_read Start shape programs starts [] is.panics_text world.panics start_ends is.panics (all_bare world.panics built.no_damages built.no_agains) is.most_panics is.traps in
     let read = head_read shape (is.programs_text ++ rest) said is.shape
     (blocks_end shape is.programs_text programs rest said is.some_program is.most_programs is.program_names is.programs
-    (λ last before current ends whole. starts_read last shape before current programs is.starts_text starts ends.starts whole is.some_start is.starts are)) in
+    (λ last before current may whole. starts_read last shape before current programs is.starts_text starts end said may.starts whole is.some_start is.starts are ends)) in
     let size = lt_is_false 1048576 (length text) is.longest in
     rw size (ap (λ t. read_lines nothing_said 0 (pieces 10 t)) spelled ∙ read 0 ∙ ap Ok (same_world world built))

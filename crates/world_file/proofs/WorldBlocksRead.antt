@@ -21,7 +21,7 @@ use Rattle.world_file.proofs.WorldPassed.{IsPassed, Reads, reads_line}
 
 -- what is said among the program blocks
 abbrev pub at_program : Key → Shape → (done : List Program) → Option Program → Facts
-at_program last shape done current = record { last = Some last; shape = shape; finished = done; opened = current; starts = [] }
+at_program last shape done current = record { last = Some last; shape = shape; finished = done; opened = current; starts = []; panics = [] }
 
 -- a program may begin behind a line of this key
 abbrev pub Opens : Key → Type 0
@@ -55,6 +55,7 @@ program_passed k shape done o l name opens w named fresh room =
       hex = rw key refl;
       once = rw (key, w) fresh;
       program = rw key refl;
+      order = rw key refl;
       frames = rw key refl;
     }
 
@@ -88,6 +89,7 @@ code_passed k shape done name code values l ws place w is room =
       hex = rw (key, w, are) refl;
       once = rw key refl;
       program = rw key refl;
+      order = rw key refl;
       frames = rw key refl;
     }
 
@@ -122,6 +124,7 @@ data_passed k shape done name code values l ws place w is room =
       hex = rw (key, w, are) refl;
       once = rw key refl;
       program = rw key refl;
+      order = rw key refl;
       frames = rw key refl;
     }
 

@@ -18,6 +18,12 @@ le_true a b h = grind (arith, common_steps)
 pub le_is_true : (a b : ℕ) → a ≤ b → nat_le a b ≡ true
 le_is_true a b h = grind (arith, common_steps)
 
+pub le_false : (a b : ℕ) → nat_le a b ≡ false → b < a
+le_false a b h = grind (arith, common_steps)
+
+pub le_is_false : (a b : ℕ) → b < a → nat_le a b ≡ false
+le_is_false a b h = grind (arith, common_steps)
+
 pub lt_false : (a b : ℕ) → nat_lt a b ≡ false → b ≤ a
 lt_false a b h = grind (arith, common_steps)
 

@@ -1,5 +1,5 @@
 -- What is read has the text, and is of the forms that can be read.
-use Rattle.std.proofs.Common.{◌≡◌, ℕ, ◌+◌, ◌<◌, ◌≤◌, ◌⊎◌, inl, inr, Bool, true, false, nat_lt, List, [], ◌∷◌, ◌++◌, length, Option, Some, None, Result, Ok, Err, codes, bytes_eq, arith, ap, ◌∙◌, sym, refl, subst, append_assoc, append-nil, if◌then◌else◌}
+use Rattle.std.proofs.Common.{◌≡◌, ℕ, ◌+◌, ◌≤◌, ◌⊎◌, inl, inr, Bool, true, false, nat_lt, List, [], ◌∷◌, ◌++◌, length, Option, Some, None, Result, Ok, Err, codes, bytes_eq, arith, ap, ◌∙◌, sym, refl, subst, append_assoc, append-nil, if◌then◌else◌}
 use Rattle.std.specs.List.{AllPairs}
 use Rattle.std.proofs.lemmas.List.Elements.{All-from_recursion}
 use Rattle.ow_base.specs.Lines.{line}
@@ -11,8 +11,7 @@ use Rattle.ow_base.specs.declared.worlds.KeyByte.{KeyByte}
 use Rattle.ow_base.specs.declared.worlds.FileText.{FileText}
 use Rattle.ow_base.specs.declared.worlds.PanicLine.{PanicLine}
 use Rattle.ow_base.specs.declared.worlds.Start.{Start as Started}
-use Rattle.world_file.specs.declared.key.Key.{Key}
-use Rattle.world_file.specs.declared.key.Key.TheVariants.{World as WorldKey, Frames, Sectors, Quantum, Budget, Program as ProgramKey, Code, Data, Start}
+use Rattle.world_file.specs.declared.key.Key.TheVariants.{World as WorldKey, Frames, Sectors, Quantum, Budget, Program as ProgramKey, Code, Data}
 use Rattle.world_file.specs.declared.why.Why.{Why}
 use Rattle.world_file.specs.WorldLines.{Line, tokens, pieces, key_of}
 use Rattle.world_file.specs.WorldFacts.{Facts}
@@ -24,54 +23,55 @@ use Rattle.world_file.proofs.WorldPieces.{joined, joined-pieces, joined_line}
 use Rattle.world_file.proofs.WorldNumbers.{same_bytes}
 use Rattle.world_file.proofs.WorldFields.{lt_false}
 use Rattle.world_file.proofs.WorldPassed.{IsPassed, passed}
-use Rattle.world_file.proofs.WorldSaid.{AreStarted, SoFar, may_stand}
+use Rattle.world_file.proofs.WorldSaid.{ArePanics, SoFar, may_stand}
+use Rattle.world_file.proofs.WorldPanics.{at_panic}
+use Rattle.world_file.proofs.WorldPanicSteps.{none_panicked}
 use Rattle.world_file.proofs.WorldStarted.{step}
-use Rattle.world_file.proofs.WorldSaid.SoFar.{Nothing, First, ToFrames, ToSectors, ToQuantum, ToBudget, ToProgram, ToCode, ToData, ToStart}
+use Rattle.world_file.proofs.WorldSaid.SoFar.{Nothing, First, ToFrames, ToSectors, ToQuantum, ToBudget, ToProgram, ToCode, ToData, ToStart, ToPanic}
 
 -- the text, if it is not too long, is of this world
 abbrev IsWhole : (text : List ℕ) → World → Type 0
 IsWhole text world = (length text ≤ 1048576 → IsWorld text world) × IsBuilt world
 
--- the line `end` may stand behind a start line alone
-end_free : (last : Option Key) → end_place last ≡ Free → last ≡ Some Start
-end_free (Some Start) h = refl
-end_free other h = cc
-
-behind_start : (f : Facts) → IsPassed f (codes "end") → f.last ≡ Some Start
+-- the line `end` stands where it may
+may_end : (f : Facts) → IsPassed f (codes "end") → end_place f.last ≡ Free
 unfolding tokens pieces key_of
-behind_start f is = end_free f.last (may_stand f (codes "end") is)
+may_end f is = may_stand f (codes "end") is
 
 no_pairs : {A : Type 0} (R : A → A → Type 0) → AllPairs R []
 no_pairs R i j d low high = absurd (omega arith)
 
--- the world that is said, with its programs and starts
-abbrev world_with : Shape → List Program → List Started → World
-world_with shape programs starts = record {
+-- the world that is said, with its programs, starts and panics
+abbrev world_with : Shape → List Program → List Started → List PanicLine → World
+world_with shape programs starts panics = record {
   load = record { shape = shape; files = []; programs = programs; starts = starts };
   typed0 = [];
   typed1 = [];
-  panics = [];
+  panics = panics;
 }
 
-regroup : (h b s e : List ℕ) → ((h ++ b) ++ s) ++ e ≡ h ++ (b ++ (s ++ e))
-regroup h b s e = simp append_assoc
+regroup : (h b s p e : List ℕ) → (((h ++ b) ++ s) ++ p) ++ e ≡ h ++ (b ++ (s ++ (p ++ e)))
+regroup h b s p e = simp append_assoc
 
 no_keys : AreKeys []
 no_keys = record { in_order = no_pairs (λ (a b : KeyByte). a.trap ≤ b.trap); most = omega arith }
 
-started_world : (text : List ℕ) (shape : Shape) (programs : List Program) (starts : List Started) → 1 ≤ length programs → 1 ≤ length starts → AreStarted text shape programs starts
-    → length (text ++ line (codes "end")) ≤ 1048576 → IsWorld (text ++ line (codes "end")) (world_with shape programs starts)
+panicked_world : (text : List ℕ) (shape : Shape) (programs : List Program) (starts : List Started) (panics : List PanicLine) → 1 ≤ length programs → 1 ≤ length starts → ArePanics text shape programs starts panics
+    → length (text ++ line (codes "end")) ≤ 1048576 → IsWorld (text ++ line (codes "end")) (world_with shape programs starts panics)
 unfolding AreTexts
-started_world text shape programs starts some more is short =
+panicked_world text shape programs starts panics some more are short =
+    let is = are.started in
     let starts_text = is.starts_text in
+    let panics_text = are.panics_text in
     let end = line (codes "end") in
     record {
       files_text = [];
       programs_text = is.blocks.blocks;
       starts_text = starts_text;
       typed = [];
-      panics_text = [];
-      spelled = ap (λ t. t ++ end) (is.spelled ∙ ap (λ b. b ++ starts_text) is.blocks.spelled) ∙ regroup (head_lines shape) is.blocks.blocks starts_text end;
+      panics_text = panics_text;
+      spelled = ap (λ t. t ++ end) (are.spelled ∙ ap (λ t. t ++ panics_text) (is.spelled ∙ ap (λ b. b ++ starts_text) is.blocks.spelled))
+          ∙ regroup (head_lines shape) is.blocks.blocks starts_text panics_text end;
       longest = short;
       shape = is.blocks.head;
       files = refl;
@@ -91,25 +91,33 @@ started_world text shape programs starts some more is short =
       typed1_is = refl;
       typed0 = no_keys;
       typed1 = no_keys;
-      panics = refl;
-      most_panics = omega arith;
-      traps = no_pairs (λ (a b : PanicLine). a.trap < b.trap);
+      panics = are.each;
+      most_panics = are.few;
+      traps = are.rising;
     }
 
-ended_found : (text : List ℕ) (f : Facts) (world : World) → SoFar text f → f.last ≡ Some Start → world_of f ≡ world → IsWhole (text ++ line (codes "end")) world
-ended_found text f world (Nothing t e) last is = let h : None ≡ Some Start = sym (ap (λ f. f.last) e) ∙ last in cc
-ended_found text f world (First t e) last is = let h : Some WorldKey ≡ Some Start = sym (ap (λ f. f.last) e) ∙ last in cc
-ended_found text f world (ToFrames u in_u t e) last is = let h : Some Frames ≡ Some Start = sym (ap (λ f. f.last) e) ∙ last in cc
-ended_found text f world (ToSectors u s in_u in_s t e) last is = let h : Some Sectors ≡ Some Start = sym (ap (λ f. f.last) e) ∙ last in cc
-ended_found text f world (ToQuantum u s q in_u in_s in_q t e) last is = let h : Some Quantum ≡ Some Start = sym (ap (λ f. f.last) e) ∙ last in cc
-ended_found text f world (ToBudget shape blocks e) last is = let h : Some Budget ≡ Some Start = sym (ap (λ f. f.last) e) ∙ last in cc
-ended_found text f world (ToProgram shape done program opened e) last is = let h : Some ProgramKey ≡ Some Start = sym (ap (λ f. f.last) e) ∙ last in cc
-ended_found text f world (ToCode shape done program opened e) last is = let h : Some Code ≡ Some Start = sym (ap (λ f. f.last) e) ∙ last in cc
-ended_found text f world (ToData shape done program opened e) last is = let h : Some Data ≡ Some Start = sym (ap (λ f. f.last) e) ∙ last in cc
-ended_found text f world (ToStart shape programs starts some more started e) last is =
-    let same : world_with shape programs starts ≡ world = ap (λ ps. world_with shape ps starts) (sym (append-nil programs)) ∙ sym (ap world_of e) ∙ is in
+-- the world of the lines up to the starts or to some panics
+whole_world : (text : List ℕ) (shape : Shape) (programs : List Program) (starts : List Started) (panics : List PanicLine) (f : Facts) (world : World) → 1 ≤ length programs → 1 ≤ length starts
+    → ArePanics text shape programs starts panics → world_of f ≡ world_of (at_panic shape programs starts panics) → world_of f ≡ world → IsWhole (text ++ line (codes "end")) world
+whole_world text shape programs starts panics f world some more are said is =
+    let same : world_with shape programs starts panics ≡ world = ap (λ ps. world_with shape ps starts panics) (sym (append-nil programs)) ∙ sym said ∙ is in
     subst (IsWhole (text ++ line (codes "end"))) same
-    (λ short. started_world text shape programs starts some more started short, record { no_files = refl; no_typed0 = refl; no_typed1 = refl; no_panics = refl })
+    (λ short. panicked_world text shape programs starts panics some more are short, record { no_files = refl; no_typed0 = refl; no_typed1 = refl; no_damages = are.no_damages; no_agains = are.no_agains })
+
+ended_found : (text : List ℕ) (f : Facts) (world : World) → SoFar text f → end_place f.last ≡ Free → world_of f ≡ world → IsWhole (text ++ line (codes "end")) world
+ended_found text f world (Nothing t e) last is = let h : end_place None ≡ Free = sym (ap (λ f. end_place f.last) e) ∙ last in cc
+ended_found text f world (First t e) last is = let h : end_place (Some WorldKey) ≡ Free = sym (ap (λ f. end_place f.last) e) ∙ last in cc
+ended_found text f world (ToFrames u in_u t e) last is = let h : end_place (Some Frames) ≡ Free = sym (ap (λ f. end_place f.last) e) ∙ last in cc
+ended_found text f world (ToSectors u s in_u in_s t e) last is = let h : end_place (Some Sectors) ≡ Free = sym (ap (λ f. end_place f.last) e) ∙ last in cc
+ended_found text f world (ToQuantum u s q in_u in_s in_q t e) last is = let h : end_place (Some Quantum) ≡ Free = sym (ap (λ f. end_place f.last) e) ∙ last in cc
+ended_found text f world (ToBudget shape blocks e) last is = let h : end_place (Some Budget) ≡ Free = sym (ap (λ f. end_place f.last) e) ∙ last in cc
+ended_found text f world (ToProgram shape done program opened e) last is = let h : end_place (Some ProgramKey) ≡ Free = sym (ap (λ f. end_place f.last) e) ∙ last in cc
+ended_found text f world (ToCode shape done program opened e) last is = let h : end_place (Some Code) ≡ Free = sym (ap (λ f. end_place f.last) e) ∙ last in cc
+ended_found text f world (ToData shape done program opened e) last is = let h : end_place (Some Data) ≡ Free = sym (ap (λ f. end_place f.last) e) ∙ last in cc
+ended_found text f world (ToStart shape programs starts some more started e) last is =
+    whole_world text shape programs starts [] f world some more (none_panicked text shape programs starts started) (ap world_of e) is
+ended_found text f world (ToPanic shape programs starts panics some more are e) last is =
+    whole_world text shape programs starts panics f world some more are (ap world_of e) is
 
 -- what reading did at a line
 abbrev IsLast : Facts → Line → (ahead : List Line) → World → Type 0
@@ -144,7 +152,7 @@ one_more : (text : List ℕ) (f : Facts) (l next : Line) (ahead : List Line) (wo
 one_more text f l next ahead world more so_far is others (inl last) =
     let end = same_bytes l (codes "end") last.0 in
     subst (λ t. IsWhole (text ++ t) world) (sym (last_line l next ahead last.1 ∙ ap line end))
-    (ended_found text f world so_far (behind_start f (subst (IsPassed f) end is)) last.2)
+    (ended_found text f world so_far (may_end f (subst (IsPassed f) end is)) last.2)
 one_more text f l next ahead world more so_far is others (inr goes) =
     subst (λ t. IsWhole t world) (append_assoc text (line l) (joined 10 (next ∷ ahead)) ∙ ap (λ t. text ++ t) (sym (joined_line l next ahead)))
     (others (step text f l so_far is goes.0) goes.1)

@@ -17,14 +17,14 @@ use Rattle.world_file.proofs.WorldPassed.{IsPassed, Reads, reads_line}
 
 -- what is said up to the line of this key, before there are programs
 abbrev pub at_head : Key → Shape → Facts
-at_head last shape = record { last = Some last; shape = shape; finished = []; opened = None; starts = [] }
+at_head last shape = record { last = Some last; shape = shape; finished = []; opened = None; starts = []; panics = [] }
 
 abbrev pub shape_with : (frames sectors quantum budget : ℕ) → Shape
 shape_with frames sectors quantum budget = record { user_frames = frames; sectors = sectors; quantum = quantum; budget = budget }
 
 first_passed : IsPassed nothing_said (codes "world 1")
 unfolding tokens pieces key_of
-first_passed = record { first = refl; built = refl; word = refl; count = refl; fields = refl; number = refl; name = refl; hex = refl; once = refl; program = refl; frames = refl }
+first_passed = record { first = refl; built = refl; word = refl; count = refl; fields = refl; number = refl; name = refl; hex = refl; once = refl; program = refl; order = refl; frames = refl }
 
 pub first_said : with_line nothing_said (codes "world 1") ≡ at_head WorldKey no_shape
 unfolding with_line tokens pieces key_of
@@ -49,6 +49,7 @@ frames_passed shape l n w low high =
       hex = rw k refl;
       once = rw k refl;
       program = rw k refl;
+      order = rw k refl;
       frames = rw k refl;
     }
 
@@ -78,6 +79,7 @@ sectors_passed shape l n w low high =
       hex = rw k refl;
       once = rw k refl;
       program = rw k refl;
+      order = rw k refl;
       frames = rw k refl;
     }
 
@@ -107,6 +109,7 @@ quantum_passed shape l n w low high =
       hex = rw k refl;
       once = rw k refl;
       program = rw k refl;
+      order = rw k refl;
       frames = rw k refl;
     }
 
@@ -136,6 +139,7 @@ budget_passed shape l n w low high =
       hex = rw k refl;
       once = rw k refl;
       program = rw k refl;
+      order = rw k refl;
       frames = rw k refl;
     }
 

@@ -4,7 +4,7 @@ use Rattle.std.specs.List.{AllByRecursion, list_all}
 use Rattle.std.proofs.lemmas.Bool.{eqb-true}
 use Rattle.ow_base.specs.Lines.{hex8}
 use Rattle.world_file.specs.declared.key.Key.{Key}
-use Rattle.world_file.specs.declared.key.Key.TheVariants.{World, Frames, Sectors, Quantum, Budget, Program, Code, Data, Start, End, Unbuilt, Unknown}
+use Rattle.world_file.specs.declared.key.Key.TheVariants.{World, Frames, Sectors, Quantum, Budget, Program, Code, Data, Start, Panic, End, Unbuilt, Unknown}
 use Rattle.world_file.specs.WorldLines.{Line, tokens, token_at, fields, key, key_of, is_unbuilt_word, number_of, is_number, is_in, is_there, word_of, is_word}
 use Rattle.world_file.proofs.WorldPieces.{HasPiece, has_piece}
 use Rattle.world_file.proofs.WorldNumbers.{both_true, same_bytes, number_of_reads, word_of_reads}
@@ -29,6 +29,7 @@ IsWordOf Program w = w ≡ codes "program"
 IsWordOf Code w = w ≡ codes "code"
 IsWordOf Data w = w ≡ codes "data"
 IsWordOf Start w = w ≡ codes "start"
+IsWordOf Panic w = w ≡ codes "panic"
 IsWordOf End w = w ≡ codes "end"
 IsWordOf other w = Unit {0}
 
@@ -48,8 +49,9 @@ word_of_key w =
     (one_of (bytes_eq w (codes "code")) Code _ w (same_bytes w (codes "code"))
     (one_of (bytes_eq w (codes "data")) Data _ w (same_bytes w (codes "data"))
     (one_of (bytes_eq w (codes "start")) Start _ w (same_bytes w (codes "start"))
+    (one_of (bytes_eq w (codes "panic")) Panic _ w (same_bytes w (codes "panic"))
     (one_of (bytes_eq w (codes "end")) End _ w (same_bytes w (codes "end"))
-    (one_of (is_unbuilt_word w) Unbuilt Unknown w (λ h. tt) tt))))))))))
+    (one_of (is_unbuilt_word w) Unbuilt Unknown w (λ h. tt) tt)))))))))))
 
 -- a line of a key begins with the key's word
 pub first_word : (l : Line) (k : Key) → key l ≡ k → IsWordOf k (token_at 0 l)

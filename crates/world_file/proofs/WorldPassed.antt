@@ -2,10 +2,10 @@
 use Rattle.std.proofs.Common.{◌≡◌, ℕ, ◌+◌, Bool, true, false, List, ◌∷◌, ◌++◌, Option, Some, None, Ok, codes, bytes_eq, ap, ◌∙◌, refl, if◌then◌else◌}
 use Rattle.ow_base.specs.Lines.{line}
 use Rattle.ow_base.specs.declared.worlds.World.{World}
-use Rattle.world_file.specs.declared.why.Why.TheVariants.{FirstLine, NotBuilt, Word, TooMany, Fields, Number, Name, Hex, Twice, NoSuchProgram, Frames}
+use Rattle.world_file.specs.declared.why.Why.TheVariants.{FirstLine, NotBuilt, Word, TooMany, Fields, Number, Name, Hex, Twice, NoSuchProgram, Order, Frames}
 use Rattle.world_file.specs.WorldLines.{Line, pieces, key}
 use Rattle.world_file.specs.WorldFacts.{Facts}
-use Rattle.world_file.specs.WorldReasons.{first_reason, is_no_first_line, is_unbuilt, is_barred, place_of, comes_too_often, lacks_fields, has_no_number, has_no_name, has_no_word, comes_twice, names_no_program, exceeds_frames}
+use Rattle.world_file.specs.WorldReasons.{first_reason, is_no_first_line, is_unbuilt, is_barred, place_of, comes_too_often, lacks_fields, has_no_number, has_no_name, has_no_word, comes_twice, names_no_program, does_not_rise, exceeds_frames}
 use Rattle.world_file.specs.WorldReading.{with_line, world_of, read_line, read_lines}
 use Rattle.world_file.proofs.WorldPieces.{free, has_piece, pieces_line}
 
@@ -21,11 +21,12 @@ pub record IsPassed (f : Facts) (line : Line) : Type 0 where
   pub hex : has_no_word (key line) line ≡ false
   pub once : comes_twice (key line) f line ≡ false
   pub program : names_no_program (key line) f line ≡ false
+  pub order : does_not_rise (key line) f line ≡ false
   pub frames : exceeds_frames (key line) f line ≡ false
 
 pub no_reason : (f : Facts) (line : Line) → IsPassed f line → first_reason f line ≡ None
 unfolding first_reason
-no_reason f line is = rw (is.first, is.built, is.word, is.count, is.fields, is.number, is.name, is.hex, is.once, is.program, is.frames) refl
+no_reason f line is = rw (is.first, is.built, is.word, is.count, is.fields, is.number, is.name, is.hex, is.once, is.program, is.order, is.frames) refl
 
 -- a test before the rest
 went_on : {A : Type 0} (b : Bool) (x : A) (more : Option A) → (if b then Some x else more) ≡ None → (b ≡ false) × (more ≡ None)
@@ -45,8 +46,9 @@ passed f line h =
     let j = went_on (has_no_word (key line) line) Hex _ i.1 in
     let k = went_on (comes_twice (key line) f line) Twice _ j.1 in
     let l = went_on (names_no_program (key line) f line) NoSuchProgram _ k.1 in
-    let m = went_on (exceeds_frames (key line) f line) Frames _ l.1 in
-    record { first = a.0; built = b.0; word = c.0; count = d.0; fields = e.0; number = g.0; name = i.0; hex = j.0; once = k.0; program = l.0; frames = m.0 }
+    let m = went_on (does_not_rise (key line) f line) Order _ l.1 in
+    let o = went_on (exceeds_frames (key line) f line) Frames _ m.1 in
+    record { first = a.0; built = b.0; word = c.0; count = d.0; fields = e.0; number = g.0; name = i.0; hex = j.0; once = k.0; program = l.0; order = m.0; frames = o.0 }
 
 -- from here on, behind any number of lines, a text is read
 abbrev pub Reads : Facts → (text : List ℕ) → World → Type 0

@@ -7,7 +7,7 @@ use Rattle.ow_base.specs.declared.worlds.World.{World}
 use Rattle.world_file.specs.declared.why.Why.{Why}
 use Rattle.world_file.specs.declared.why.Why.TheVariants.{End, TooLarge}
 use Rattle.world_file.specs.WorldLines.{Line, pieces}
-use Rattle.world_file.specs.WorldFacts.{Facts, facts, last_key, shape_of, finished, opened, starts}
+use Rattle.world_file.specs.WorldFacts.{Facts, facts, last_key, shape_of, finished, opened, starts, panics}
 use Rattle.world_file.specs.WorldReasons.{first_reason, reason_at}
 use Rattle.world_file.specs.WorldRefusals.{AreRead, IsReadTo, IsRefused}
 use Rattle.world_file.specs.WorldRefusals.IsRefused.{Refused, Early, Behind, Long}
@@ -17,11 +17,11 @@ use Rattle.world_file.proofs.WorldNumbers.{same_bytes}
 
 -- one line more
 facts_more : (behind : List Line) (line : Line) → with_line (facts behind) line ≡ facts (line ∷ behind)
-unfolding with_line last_key shape_of finished opened starts
+unfolding with_line last_key shape_of finished opened starts panics
 facts_more behind line = refl
 
 facts_none : nothing_said ≡ facts []
-unfolding last_key shape_of finished opened starts
+unfolding last_key shape_of finished opened starts panics
 facts_none = refl
 
 read_further : (behind : List Line) (line next : Line) (ahead : List Line)

@@ -1,9 +1,10 @@
 -- What the lines that were read say, and the five lines at the head.
 use Rattle.std.proofs.Common.{◌≡◌, ℕ, ◌^◌, ◌<◌, ◌≤◌, true, false, not, ◌==◌, List, [], ◌∷◌, ◌++◌, length, Some, codes, decimal, ap, ◌∙◌, sym, refl, subst}
-use Rattle.std.specs.List.{list_any}
+use Rattle.std.specs.List.{All, list_any}
 use Rattle.ow_base.specs.Lines.{line, spaced, number_line}
-use Rattle.ow_base.specs.World.{AreTexts, IsShape, IsName, AreWordLines, IsProgram, IsStart, head_lines, start_pages}
+use Rattle.ow_base.specs.World.{AreTexts, IsShape, IsName, AreWordLines, IsProgram, IsStart, IsPanic, head_lines, start_pages}
 use Rattle.ow_base.specs.declared.machine.Shape.{Shape}
+use Rattle.ow_base.specs.declared.worlds.PanicLine.{PanicLine}
 use Rattle.ow_base.specs.declared.worlds.Program.{Program}
 use Rattle.ow_base.specs.declared.worlds.Start.{Start as Started}
 use Rattle.world_file.specs.declared.key.Key.{Key}
@@ -19,6 +20,7 @@ use Rattle.world_file.proofs.WorldHead.{at_head, shape_with}
 use Rattle.world_file.proofs.WorldBlocksRead.{at_program}
 use Rattle.world_file.proofs.WorldBlocks.{NamesApart}
 use Rattle.world_file.proofs.WorldAccepts.{at_start}
+use Rattle.world_file.proofs.WorldPanics.{AreRising, at_panic}
 use Rattle.world_file.proofs.WorldKeys.{neither, not_false, words_one, number_found}
 
 abbrev pub IsIn : (low high n : ℕ) → Type 0
@@ -63,6 +65,18 @@ pub record AreStarted (text : List ℕ) (shape : Shape) (programs : List Program
   pub fits : start_pages programs starts ≤ shape.user_frames
   pub spelled : text ≡ before ++ starts_text
 
+-- all up to some panic line
+pub record ArePanics (text : List ℕ) (shape : Shape) (programs : List Program) (starts : List Started) (panics : List PanicLine) : Type 0 where
+  pub before : List ℕ
+  pub started : AreStarted before shape programs starts
+  pub panics_text : List ℕ
+  pub each : AreTexts (IsPanic shape.user_frames) panics_text panics
+  pub few : length panics ≤ 32
+  pub rising : AreRising panics
+  pub no_damages : All (λ (panic : PanicLine). panic.damages ≡ []) panics
+  pub no_agains : All (λ (panic : PanicLine). panic.agains ≡ []) panics
+  pub spelled : text ≡ before ++ panics_text
+
 -- what the lines of a text say where each was passed
 pub data SoFar (text : List ℕ) (f : Facts) : Type 0 where
   Nothing : text ≡ [] → f ≡ nothing_said → SoFar text f
@@ -78,6 +92,8 @@ pub data SoFar (text : List ℕ) (f : Facts) : Type 0 where
   ToCode : (shape : Shape) (done : List Program) (program : Program) → IsOpen text Code shape done program → f ≡ at_program Code shape done (Some program) → SoFar text f
   ToData : (shape : Shape) (done : List Program) (program : Program) → IsOpen text Data shape done program → f ≡ at_program Data shape done (Some program) → SoFar text f
   ToStart : (shape : Shape) (programs : List Program) (starts : List Started) → 1 ≤ length programs → 1 ≤ length starts → AreStarted text shape programs starts → f ≡ at_start shape programs starts → SoFar text f
+  ToPanic : (shape : Shape) (programs : List Program) (starts : List Started) (panics : List PanicLine) → 1 ≤ length programs → 1 ≤ length starts → ArePanics text shape programs starts panics
+      → f ≡ at_panic shape programs starts panics → SoFar text f
 
 -- a line that is passed stands where it may
 free_place : (place : Place) → is_barred place ≡ false → is_taken place ≡ false → place ≡ Free

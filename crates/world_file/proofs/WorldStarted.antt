@@ -5,10 +5,11 @@ use Rattle.std.proofs.lemmas.List.Folds.{find_at}
 use Rattle.ow_base.specs.Lines.{line, spaced}
 use Rattle.ow_base.specs.World.{AreTexts, IsStart, pages_of_found, start_pages}
 use Rattle.ow_base.specs.declared.machine.Shape.{Shape}
+use Rattle.ow_base.specs.declared.worlds.PanicLine.{PanicLine}
 use Rattle.ow_base.specs.declared.worlds.Program.{Program}
 use Rattle.ow_base.specs.declared.worlds.Start.{Start as Started}
 use Rattle.world_file.specs.declared.key.Key.{Key}
-use Rattle.world_file.specs.declared.key.Key.TheVariants.{Budget, Program as ProgramKey, Code, Data, Start, End}
+use Rattle.world_file.specs.declared.key.Key.TheVariants.{Budget, Program as ProgramKey, Code, Data, Start, Panic, End}
 use Rattle.world_file.specs.WorldLines.{Line, token_at, fields, key, number_of, is_number}
 use Rattle.world_file.specs.WorldFacts.{Facts, has_name}
 use Rattle.world_file.specs.WorldReasons.{place_of, has_no_number, names_no_program, exceeds_frames}
@@ -23,11 +24,13 @@ use Rattle.world_file.proofs.WorldHead.{at_head}
 use Rattle.world_file.proofs.WorldBlocksRead.{at_program}
 use Rattle.world_file.proofs.WorldAccepts.{before_start, at_start}
 use Rattle.world_file.proofs.WorldStarts.{pages_of, pages_push}
+use Rattle.world_file.proofs.WorldPanics.{at_panic}
+use Rattle.world_file.proofs.WorldPanicSteps.{none_panicked, panic_step}
 use Rattle.world_file.proofs.WorldKeys.{not_false, first_word, words_split, words_two, no_field, number_found}
-use Rattle.world_file.proofs.WorldSaid.{AreBlocks, AreStarted, IsOpen, SoFar, may_stand, field_count}
+use Rattle.world_file.proofs.WorldSaid.{AreBlocks, AreStarted, ArePanics, IsOpen, SoFar, may_stand, field_count}
 use Rattle.world_file.proofs.WorldHeadSteps.{first_step, frames_step, sectors_step, quantum_step, budget_step}
 use Rattle.world_file.proofs.WorldBlockSteps.{texts_more, closed, counted_free, program_step, code_step, data_step}
-use Rattle.world_file.proofs.WorldSaid.SoFar.{Nothing, First, ToFrames, ToSectors, ToQuantum, ToBudget, ToProgram, ToCode, ToData, ToStart}
+use Rattle.world_file.proofs.WorldSaid.SoFar.{Nothing, First, ToFrames, ToSectors, ToQuantum, ToBudget, ToProgram, ToCode, ToData, ToStart, ToPanic}
 
 -- what a search by a test that holds somewhere finds
 abbrev IsFoundBy : (name : List ℕ) → Option Program → Type 0
@@ -149,16 +152,28 @@ end_line f l e is =
     let none = no_field (fields l) (field_count f l End e is) in
     spelled_words l ∙ ap (joined 32) (words_split l ∙ ap (λ fs. token_at 0 l ∷ fs) none ∙ ap (λ w. w ∷ []) (first_word l End e))
 
-after_start : (text : List ℕ) (f : Facts) (l : Line) (shape : Shape) (programs : List Program) (starts : List Started) → 1 ≤ length programs → AreStarted text shape programs starts
+after_start : (text : List ℕ) (f : Facts) (l : Line) (shape : Shape) (programs : List Program) (starts : List Started) → 1 ≤ length programs → 1 ≤ length starts → AreStarted text shape programs starts
     → f ≡ at_start shape programs starts → IsPassed f l → bytes_eq l (codes "end") ≡ false → (k : Key) → key l ≡ k → place_of k (at_start shape programs starts) ≡ Free → SoFar (text ++ line l) (with_line f l)
-after_start text f l shape programs starts some started e is other Start key_is free =
+after_start text f l shape programs starts some some_start started e is other Start key_is free =
     let whole = sym (append-nil programs) in
     start_step text f l Start shape programs None starts (subst (λ ps. 1 ≤ length ps) whole some) (counted_free 16 (length starts) free)
     (subst (λ ps. AreStarted text shape ps starts) whole started) e key_is is
-after_start text f l shape programs starts some started e is other End key_is free =
+after_start text f l shape programs starts some some_start started e is other Panic key_is free =
+    panic_step text f l Start shape programs starts [] some some_start (omega arith) (none_panicked text shape programs starts started) e key_is is
+after_start text f l shape programs starts some some_start started e is other End key_is free =
     let hit : bytes_eq l (codes "end") ≡ true = ap (λ l. bytes_eq l (codes "end")) (end_line (at_start shape programs starts) l key_is (subst (λ f. IsPassed f l) e is)) in
     cc
-after_start text f l shape programs starts some started e is other k key_is free = cc
+after_start text f l shape programs starts some some_start started e is other k key_is free = cc
+
+after_panic : (text : List ℕ) (f : Facts) (l : Line) (shape : Shape) (programs : List Program) (starts : List Started) (panics : List PanicLine) → 1 ≤ length programs → 1 ≤ length starts
+    → ArePanics text shape programs starts panics → f ≡ at_panic shape programs starts panics → IsPassed f l → bytes_eq l (codes "end") ≡ false
+    → (k : Key) → key l ≡ k → place_of k (at_panic shape programs starts panics) ≡ Free → SoFar (text ++ line l) (with_line f l)
+after_panic text f l shape programs starts panics some some_start are e is other Panic key_is free =
+    panic_step text f l Panic shape programs starts panics some some_start (counted_free 32 (length panics) free) are e key_is is
+after_panic text f l shape programs starts panics some some_start are e is other End key_is free =
+    let hit : bytes_eq l (codes "end") ≡ true = ap (λ l. bytes_eq l (codes "end")) (end_line (at_panic shape programs starts panics) l key_is (subst (λ f. IsPassed f l) e is)) in
+    cc
+after_panic text f l shape programs starts panics some some_start are e is other k key_is free = cc
 
 pub step : (text : List ℕ) (f : Facts) (l : Line) → SoFar text f → IsPassed f l → bytes_eq l (codes "end") ≡ false → SoFar (text ++ line l) (with_line f l)
 step text f l (Nothing t e) is other = first_step text f l t e is
@@ -180,4 +195,7 @@ step text f l (ToData shape done program opened e) is other =
     after_data text f l shape done program opened e is (key l) refl (may_stand (at_program Data shape done (Some program)) l p)
 step text f l (ToStart shape programs starts some more started e) is other =
     let p = subst (λ f. IsPassed f l) e is in
-    after_start text f l shape programs starts some started e is other (key l) refl (may_stand (at_start shape programs starts) l p)
+    after_start text f l shape programs starts some more started e is other (key l) refl (may_stand (at_start shape programs starts) l p)
+step text f l (ToPanic shape programs starts panics some more are e) is other =
+    let p = subst (λ f. IsPassed f l) e is in
+    after_panic text f l shape programs starts panics some more are e is other (key l) refl (may_stand (at_panic shape programs starts panics) l p)

@@ -2,7 +2,7 @@
 use Rattle.std.proofs.Common.{◌≡◌, ℕ, ◌+◌, ◌<◌, Bool, true, false, nat_lt, List, [], ◌∷◌, length, Option, Some, None, Ok, Err, codes, bytes_eq, arith, ap, ◌∙◌, refl, if◌then◌else◌, ◌==◌}
 use Rattle.std.proofs.lemmas.Grind.{common_steps}
 use Rattle.world_file.specs.declared.key.Key.{Key}
-use Rattle.world_file.specs.declared.key.Key.TheVariants.{World as WorldKey, Frames, Sectors, Quantum, Budget, Program, Code, Data, Start, End as EndKey, Unbuilt, Unknown}
+use Rattle.world_file.specs.declared.key.Key.TheVariants.{World as WorldKey, Frames, Sectors, Quantum, Budget, Program, Code, Data, Start, Panic, End as EndKey, Unbuilt, Unknown}
 use Rattle.world_file.specs.declared.why.Why.{Why}
 use Rattle.world_file.specs.declared.why.Why.TheVariants.{End}
 use Rattle.world_file.specs.WorldLines.{Line, with_byte, pieces, key, is_empty}
@@ -95,6 +95,7 @@ program_counted count (Some Program) barred taken = cc
 program_counted count (Some Code) barred taken = counted 16 count taken
 program_counted count (Some Data) barred taken = counted 16 count taken
 program_counted count (Some Start) barred taken = cc
+program_counted count (Some Panic) barred taken = cc
 program_counted count (Some EndKey) barred taken = cc
 program_counted count (Some Unbuilt) barred taken = cc
 program_counted count (Some Unknown) barred taken = cc

@@ -2,10 +2,11 @@
 use Rattle.std.specs.Prelude.{ℕ, Bool, List, [], ◌∷◌, ◌++◌, option_to_list, bytes_eq, Option, Some, None, option_map}
 use Rattle.std.specs.List.{position_or_len}
 use Rattle.ow_base.specs.declared.machine.Shape.{Shape}
+use Rattle.ow_base.specs.declared.worlds.PanicLine.{PanicLine}
 use Rattle.ow_base.specs.declared.worlds.Program.{Program}
 use Rattle.ow_base.specs.declared.worlds.Start.{Start as Started}
 use Rattle.world_file.specs.declared.key.Key.{Key}
-use Rattle.world_file.specs.declared.key.Key.TheVariants.{Frames, Sectors, Quantum, Budget, Program as ProgramKey, Code, Data, Start}
+use Rattle.world_file.specs.declared.key.Key.TheVariants.{Frames, Sectors, Quantum, Budget, Program as ProgramKey, Code, Data, Start, Panic}
 use Rattle.world_file.specs.WorldLines.{Line, key, token_at, number_at, words_of}
 
 -- what the line before is
@@ -71,6 +72,18 @@ unfoldable pub starts : List Line → List Started
 starts [] = []
 starts (line ∷ behind) = starts_by (key line) line (finished behind ++ option_to_list (opened behind)) (starts behind)
 
+-- the panics, in which nothing is damaged and no store is refused again
+abbrev pub bare_panic : (trap store : ℕ) → PanicLine
+bare_panic trap store = record { trap = trap; store = store; damages = []; agains = [] }
+
+abbrev pub panics_by : Key → Line → List PanicLine → List PanicLine
+panics_by Panic line before = before ++ bare_panic (number_at 1 line) (number_at 2 line) ∷ []
+panics_by other line before = before
+
+unfoldable pub panics : List Line → List PanicLine
+panics [] = []
+panics (line ∷ behind) = panics_by (key line) line (panics behind)
+
 -- all that the lines before say
 pub record Facts : Type 0 where
   pub last : Option Key
@@ -78,6 +91,7 @@ pub record Facts : Type 0 where
   pub finished : List Program
   pub opened : Option Program
   pub starts : List Started
+  pub panics : List PanicLine
 
 abbrev pub programs_of : Facts → List Program
 programs_of f = f.finished ++ option_to_list f.opened
@@ -89,4 +103,5 @@ facts behind = record {
   finished = finished behind;
   opened = opened behind;
   starts = starts behind;
+  panics = panics behind;
 }

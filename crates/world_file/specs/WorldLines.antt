@@ -4,7 +4,7 @@ use Rattle.std.specs.List.{list_all}
 use Rattle.std.specs.Str.Parse.{digits_value}
 use Rattle.ow_base.specs.Lines.{hex8}
 use Rattle.world_file.specs.declared.key.Key.{Key}
-use Rattle.world_file.specs.declared.key.Key.TheVariants.{World, Frames, Sectors, Quantum, Budget, Program, Code, Data, Start, End, Unbuilt, Unknown}
+use Rattle.world_file.specs.declared.key.Key.TheVariants.{World, Frames, Sectors, Quantum, Budget, Program, Code, Data, Start, Panic, End, Unbuilt, Unknown}
 
 -- the bytes of a line, without its line feed
 abbrev pub Line : Type 0
@@ -34,7 +34,7 @@ fields line = drop 1 (tokens line)
 -- what a line is by its first token
 abbrev pub is_unbuilt_word : List ℕ → Bool
 is_unbuilt_word word = bytes_eq word (codes "file") || (bytes_eq word (codes "put") || (bytes_eq word (codes "type")
-    || (bytes_eq word (codes "panic") || (bytes_eq word (codes "damage") || bytes_eq word (codes "again")))))
+    || (bytes_eq word (codes "damage") || bytes_eq word (codes "again"))))
 
 unfoldable pub key_of : (word : List ℕ) → Key
 key_of word =
@@ -47,6 +47,7 @@ key_of word =
     if bytes_eq word (codes "code") then Code else
     if bytes_eq word (codes "data") then Data else
     if bytes_eq word (codes "start") then Start else
+    if bytes_eq word (codes "panic") then Panic else
     if bytes_eq word (codes "end") then End else
     if is_unbuilt_word word then Unbuilt else Unknown
 

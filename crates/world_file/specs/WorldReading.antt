@@ -6,7 +6,7 @@ use Rattle.world_file.specs.declared.reader.WorldFault.TheVariants.{Bad, Memory}
 use Rattle.world_file.specs.declared.why.Why.{Why}
 use Rattle.world_file.specs.declared.why.Why.TheVariants.{End, TooLarge}
 use Rattle.world_file.specs.WorldLines.{Line, pieces, key, number_at}
-use Rattle.world_file.specs.WorldFacts.{Facts, programs_of, no_shape, with_limit, opened_by, finished_by, starts_by}
+use Rattle.world_file.specs.WorldFacts.{Facts, programs_of, no_shape, with_limit, opened_by, finished_by, starts_by, panics_by}
 use Rattle.world_file.specs.WorldReasons.{first_reason}
 
 -- the line at which a text is refused, and why
@@ -16,7 +16,7 @@ pub record Refusal : Type 0 where
 
 -- nothing said yet
 abbrev pub nothing_said : Facts
-nothing_said = record { last = None; shape = no_shape; finished = []; opened = None; starts = [] }
+nothing_said = record { last = None; shape = no_shape; finished = []; opened = None; starts = []; panics = [] }
 
 -- what is said with one more line
 unfoldable pub with_line : Facts → Line → Facts
@@ -26,6 +26,7 @@ with_line f line = record {
   finished = finished_by (key line) f.finished f.opened;
   opened = opened_by (key line) line f.opened;
   starts = starts_by (key line) line (programs_of f) f.starts;
+  panics = panics_by (key line) line f.panics;
 }
 
 -- the world that is said
@@ -34,7 +35,7 @@ world_of f = record {
   load = record { shape = f.shape; files = []; programs = programs_of f; starts = f.starts };
   typed0 = [];
   typed1 = [];
-  panics = [];
+  panics = f.panics;
 }
 
 -- the line `end`, with what is behind it

@@ -1,15 +1,16 @@
 -- Why a line is refused behind the lines before it. Each reason is a test of its own.
-use Rattle.std.specs.Prelude.{ℕ, ◌+◌, Bool, true, false, not, nat_lt, nat_le, ◌&&◌, ◌||◌, ◌==◌, if◌then◌else◌, List, [], ◌∷◌, length, find, codes, bytes_eq, Option, Some, None}
+use Rattle.std.specs.Prelude.{ℕ, ◌+◌, ◌-◌, Bool, true, false, not, nat_lt, nat_le, ◌&&◌, ◌||◌, ◌==◌, if◌then◌else◌, List, [], ◌∷◌, length, find, slice_get, codes, bytes_eq, Option, Some, None}
 use Rattle.std.specs.List.{list_all, list_any}
 use Rattle.ow_base.specs.World.{start_pages, pages_of_found}
+use Rattle.ow_base.specs.declared.worlds.PanicLine.{PanicLine}
 use Rattle.ow_base.specs.declared.worlds.Program.{Program}
 use Rattle.world_file.specs.declared.key.Key.{Key}
-use Rattle.world_file.specs.declared.key.Key.TheVariants.{World, Frames, Sectors, Quantum, Budget, Program as ProgramKey, Code, Data, Start, End, Unbuilt}
+use Rattle.world_file.specs.declared.key.Key.TheVariants.{World, Frames, Sectors, Quantum, Budget, Program as ProgramKey, Code, Data, Start, Panic, End, Unbuilt}
 use Rattle.world_file.specs.declared.reasons.Place.{Place}
 use Rattle.world_file.specs.declared.reasons.Place.TheVariants.{Free, Taken, Barred}
 use Rattle.world_file.specs.declared.why.Why.{Why}
 use Rattle.world_file.specs.declared.why.Why.TheVariants.{FirstLine, NotBuilt, Word, TooMany, Fields, Number, Name, Hex, Escape, Twice, NoSuchProgram, Order, Frames as TooManyFrames, Sectors as TooManySectors, End as NoEnd, TooLarge}
-use Rattle.world_file.specs.WorldLines.{Line, tokens, token_at, fields, key, is_number, is_name, is_word, is_empty, is_there}
+use Rattle.world_file.specs.WorldLines.{Line, tokens, token_at, fields, key, number_at, is_number, is_name, is_word, is_empty, is_there}
 use Rattle.world_file.specs.WorldFacts.{Facts, facts, programs_of, has_name}
 
 -- the reasons in words
@@ -84,8 +85,14 @@ start_place count (Some Data) = counted_place 16 count
 start_place count (Some Start) = counted_place 16 count
 start_place count other = Barred
 
+abbrev pub panic_place : (count : ℕ) → Option Key → Place
+panic_place count (Some Start) = counted_place 32 count
+panic_place count (Some Panic) = counted_place 32 count
+panic_place count other = Barred
+
 abbrev pub end_place : Option Key → Place
 end_place (Some Start) = Free
+end_place (Some Panic) = Free
 end_place other = Barred
 
 abbrev pub head_place : Key → Option Key → Place
@@ -101,6 +108,7 @@ place_of ProgramKey f = program_place (length (programs_of f)) f.last
 place_of Code f = code_place f.last
 place_of Data f = data_place f.last
 place_of Start f = start_place (length f.starts) f.last
+place_of Panic f = panic_place (length f.panics) f.last
 place_of End f = end_place f.last
 place_of other f = head_place other f.last
 
@@ -151,6 +159,7 @@ has_fields ProgramKey n = n == 1
 has_fields Code n = nat_le 1 n
 has_fields Data n = nat_le 1 n
 has_fields Start n = n == 2
+has_fields Panic n = n == 2
 has_fields End n = n == 0
 has_fields other n = true
 
@@ -164,6 +173,7 @@ has_no_number Sectors line = not (is_number 1 2048 (token_at 1 line))
 has_no_number Quantum line = not (is_number 1 10000 (token_at 1 line))
 has_no_number Budget line = not (is_number 0 2000000 (token_at 1 line))
 has_no_number Start line = not (is_number 0 1 (token_at 2 line))
+has_no_number Panic line = not (is_number 1 4294967295 (token_at 1 line)) || not (is_number 0 4294967295 (token_at 2 line))
 has_no_number other line = false
 
 abbrev pub has_no_name : Key → Line → Bool
@@ -185,6 +195,19 @@ abbrev pub names_no_program : Key → Facts → Line → Bool
 names_no_program Start f line = not (list_any (has_name (token_at 1 line)) (programs_of f))
 names_no_program other f line = false
 
+-- the trap of the panic line before, 0 where there is none
+abbrev pub trap_of_found : Option PanicLine → ℕ
+trap_of_found (Some panic) = panic.trap
+trap_of_found None = 0
+
+abbrev pub last_trap : List PanicLine → ℕ
+last_trap panics = trap_of_found (slice_get panics (length panics - 1))
+
+-- the trap of a panic is not above that of the panic line before
+abbrev pub does_not_rise : Key → Facts → Line → Bool
+does_not_rise Panic f line = nat_le (number_at 1 line) (last_trap f.panics)
+does_not_rise other f line = false
+
 -- the pages that a start of the program with this name needs
 abbrev pub named_pages : (name : List ℕ) → List Program → ℕ
 named_pages name programs = pages_of_found (find (has_name name) programs)
@@ -194,8 +217,8 @@ abbrev pub exceeds_frames : Key → Facts → Line → Bool
 exceeds_frames Start f line = nat_lt f.shape.user_frames (start_pages (programs_of f) f.starts + named_pages (token_at 1 line) (programs_of f))
 exceeds_frames other f line = false
 
--- whether a reason holds for a line; what gives `escape`, `order` and `sectors` is on lines of forms that
--- cannot be read yet, and `end` and `too large` are no reasons of a line
+-- whether a reason holds for a line; what gives `escape` and `sectors` is on lines of forms that cannot be
+-- read yet, and `end` and `too large` are no reasons of a line
 abbrev pub holds : Facts → Line → Why → Bool
 holds f line FirstLine = is_no_first_line f line
 holds f line NotBuilt = is_unbuilt (key line)
@@ -207,6 +230,7 @@ holds f line Name = has_no_name (key line) line
 holds f line Hex = has_no_word (key line) line
 holds f line Twice = comes_twice (key line) f line
 holds f line NoSuchProgram = names_no_program (key line) f line
+holds f line Order = does_not_rise (key line) f line
 holds f line TooManyFrames = exceeds_frames (key line) f line
 holds f line other = false
 

@@ -1,6 +1,7 @@
 -- Which world texts are refused, at which line and why. A text's lines are its pieces between line feeds, and the
 -- piece behind the last line feed is no line.
-use Rattle.std.specs.Prelude.{◌≡◌, ℕ, ◌+◌, ◌<◌, ◌≤◌, List, [], ◌∷◌, ◌++◌, length, reverse, codes, Some, None}
+use Rattle.std.specs.Prelude.{◌≡◌, ℕ, ◌+◌, ◌<◌, ◌≤◌, List, [], ◌∷◌, ◌++◌, length, reverse, All, codes, Some, None}
+use Rattle.ow_base.specs.declared.worlds.PanicLine.{PanicLine}
 use Rattle.ow_base.specs.declared.worlds.World.{World}
 use Rattle.world_file.specs.declared.why.Why.{Why}
 use Rattle.world_file.specs.declared.why.Why.TheVariants.{End, TooLarge}
@@ -9,12 +10,14 @@ use Rattle.world_file.specs.declared.reader.WorldFault.TheVariants.{Bad, Memory}
 use Rattle.world_file.specs.WorldLines.{Line, pieces}
 use Rattle.world_file.specs.WorldReasons.{reason_at}
 
--- worlds of the forms that can be read: programs, and up to 16 starts of them
+-- worlds of the forms that can be read: programs, up to 16 starts of them, and up to 32 panics in which nothing is
+-- damaged and no store is refused again
 pub record IsBuilt (world : World) : Type 0 where
   pub no_files : world.load.files ≡ []
   pub no_typed0 : world.typed0 ≡ []
   pub no_typed1 : world.typed1 ≡ []
-  pub no_panics : world.panics ≡ []
+  pub no_damages : All (λ (panic : PanicLine). panic.damages ≡ []) world.panics
+  pub no_agains : All (λ (panic : PanicLine). panic.agains ≡ []) world.panics
 
 -- none of these lines, nearest first, is refused or the last
 unfoldable pub AreRead : (behind : List Line) → Type 0

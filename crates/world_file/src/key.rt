@@ -24,6 +24,8 @@ pub enum Key {
     Data,
     /// A program that is started, and its terminal.
     Start,
+    /// A panic: its trap, and the store that is refused.
+    Panic,
     /// The last line.
     End,
     /// A form that cannot be read yet.
@@ -56,6 +58,8 @@ impl Key {
             Key::Data
         } else if is(word, b"start") {
             Key::Start
+        } else if is(word, b"panic") {
+            Key::Panic
         } else if is(word, b"end") {
             Key::End
         } else if is_unbuilt(word) {
@@ -72,14 +76,13 @@ fn is(word: &[u8], other: &[u8]) -> bool
     word == other
 }
 
-// The first word of a line of files, of typed bytes or of panics.
+// The first word of a line of files, of typed bytes, or of what is damaged or refused again in a panic.
 fn is_unbuilt(word: &[u8]) -> bool
     ensures { result ≡ is_unbuilt_word word.now }
 {
     is(word, b"file")
         || is(word, b"put")
         || is(word, b"type")
-        || is(word, b"panic")
         || is(word, b"damage")
         || is(word, b"again")
 }

@@ -2,14 +2,14 @@
 
 ghost use Rattle.std.specs.Prelude.{◌≡◌, Option};
 ghost use Rattle.world_file.specs.WorldLines.{fields};
-ghost use Rattle.world_file.specs.WorldReasons.{first_reason, counted_place, place_of, head_place, is_no_first_line, is_unbuilt, exceeds, has_too_many_words, has_fields, lacks_fields, has_no_number, has_no_name, has_no_word, comes_twice, names_no_program, exceeds_frames};
+ghost use Rattle.world_file.specs.WorldReasons.{first_reason, counted_place, place_of, head_place, is_no_first_line, is_unbuilt, exceeds, has_too_many_words, has_fields, lacks_fields, has_no_number, has_no_name, has_no_word, comes_twice, names_no_program, does_not_rise, exceeds_frames};
 
 use crate::key::Key;
 use crate::line::{Line, is_name};
 use crate::so_far::SoFar;
 use crate::why::Why;
 
-// The most words of a line, the most words of code or of data of a block, and the most programs or starts.
+// The most words of a line, the most words of code or of data of a block, and the most programs, starts or panics.
 const LINE_WORDS: usize = 16;
 
 const BLOCK_WORDS: usize = 65536;
@@ -17,6 +17,8 @@ const BLOCK_WORDS: usize = 65536;
 const MOST_PROGRAMS: usize = 16;
 
 const MOST_STARTS: usize = 16;
+
+const MOST_PANICS: usize = 32;
 
 /// Whether a line of a kind may stand behind the lines so far.
 #[derive(Clone, Copy, Debug, PartialEq, Eq)]
@@ -70,9 +72,12 @@ fn place_of(key: Key, so_far: &SoFar) -> Place
         (Key::Start, Some(Key::Code | Key::Data | Key::Start)) => {
             counted_place(MOST_STARTS, so_far.start_count())
         }
+        (Key::Panic, Some(Key::Start | Key::Panic)) => {
+            counted_place(MOST_PANICS, so_far.panic_count())
+        }
         (Key::Code, Some(Key::Program | Key::Code))
         | (Key::Data, Some(Key::Code | Key::Data))
-        | (Key::End, Some(Key::Start)) => Place::Free,
+        | (Key::End, Some(Key::Start | Key::Panic)) => Place::Free,
         _ => head_place(key, last),
     }
 }
@@ -114,7 +119,7 @@ fn has_fields(key: Key, count: usize) -> bool
     match key {
         Key::Frames | Key::Sectors | Key::Quantum | Key::Budget | Key::Program => count == 1,
         Key::Code | Key::Data => count >= 1,
-        Key::Start => count == 2,
+        Key::Start | Key::Panic => count == 2,
         Key::End => count == 0,
         Key::World | Key::Unbuilt | Key::Unknown => true,
     }
@@ -136,6 +141,7 @@ fn has_no_number(key: Key, line: &Line) -> bool
         Key::Quantum => !line.has_number(1, 1, 10000),
         Key::Budget => !line.has_number(1, 0, 2_000_000),
         Key::Start => !line.has_number(2, 0, 1),
+        Key::Panic => !line.has_number(1, 1, u32::MAX) || !line.has_number(2, 0, u32::MAX),
         _ => false,
     }
 }
@@ -177,6 +183,16 @@ fn names_no_program(key: Key, so_far: &SoFar, line: &Line) -> bool
     }
 }
 
+// The trap of a panic is not above that of the panic line before.
+fn does_not_rise(key: Key, so_far: &SoFar, line: &Line) -> bool
+    ensures { result ≡ does_not_rise key so_far.now line.now }
+{
+    match key {
+        Key::Panic => line.number(1) <= so_far.last_trap(),
+        _ => false,
+    }
+}
+
 // The pages of all starts, with this one, are more than the frames.
 fn exceeds_frames(key: Key, so_far: &SoFar, line: &Line) -> bool
     ensures { result ≡ exceeds_frames key so_far.now line.now }
@@ -214,6 +230,8 @@ pub fn first_reason(so_far: &SoFar, line: &Line) -> Option<Why>
         Some(Why::Twice)
     } else if names_no_program(key, so_far, line) {
         Some(Why::NoSuchProgram)
+    } else if does_not_rise(key, so_far, line) {
+        Some(Why::Order)
     } else if exceeds_frames(key, so_far, line) {
         Some(Why::Frames)
     } else {

@@ -4,15 +4,15 @@ ghost use Rattle.std.specs.Prelude.{◌≡◌, ℕ, ◌+◌, ◌<◌, ◌≤◌,
 ghost use Rattle.std.specs.List.{list_any, position_or_len};
 ghost use Rattle.ow_base.specs.World.{page_count, started_page_count, pages_of_found, start_pages};
 ghost use Rattle.ow_base.specs.declared.worlds.Program.{Program};
-ghost use Rattle.world_file.specs.declared.key.Key.TheVariants.{Program as ProgramKey};
+ghost use Rattle.world_file.specs.declared.key.Key.TheVariants.{Program as ProgramKey, Code as CodeKey, Data as DataKey, Start as StartKey, Panic as PanicKey};
 ghost use Rattle.world_file.specs.WorldLines.{key, token_at, number_at, words_of};
-ghost use Rattle.world_file.specs.WorldFacts.{Facts, programs_of, no_shape, with_limit, with_code, with_values, opened_by, finished_by, starts_by, start_of, has_name};
-ghost use Rattle.world_file.specs.WorldReasons.{code_count, data_count, named_pages};
+ghost use Rattle.world_file.specs.WorldFacts.{Facts, programs_of, no_shape, with_limit, with_code, with_values, opened_by, finished_by, starts_by, panics_by, bare_panic, start_of, has_name};
+ghost use Rattle.world_file.specs.WorldReasons.{code_count, data_count, named_pages, last_trap};
 ghost use Rattle.world_file.specs.WorldReading.{nothing_said, with_line, world_of};
 
 use crate::key::Key;
 use crate::line::Line;
-use ow_base::{List, Load, Program, Shape, Start, World};
+use ow_base::{List, Load, PanicLine, Program, Shape, Start, World};
 use std::alloc::{AllocError, Global};
 use std::marker::Model;
 
@@ -192,6 +192,7 @@ pub struct SoFar {
     finished: Vec<Program>,
     opened: Option<Block>,
     starts: Vec<Start>,
+    panics: Vec<PanicLine>,
 }
 
 impl Model for SoFar {
@@ -200,7 +201,7 @@ impl Model for SoFar {
 
     ghost Value = { Facts };
 
-    ghost view = { λ s. record { last = s.last; shape = s.shape; finished = s.finished.items; opened = s.opened; starts = s.starts.items } };
+    ghost view = { λ s. record { last = s.last; shape = s.shape; finished = s.finished.items; opened = s.opened; starts = s.starts.items; panics = s.panics.items } };
 
     ghost invariant = { λ s. length (s.finished.items ++ option_to_list s.opened) ≤ 16 };
 }
@@ -221,6 +222,7 @@ impl SoFar {
             finished: Vec::new(alloc),
             opened: None,
             starts: Vec::new(alloc),
+            panics: Vec::new(alloc),
         }
     }
 
@@ -231,55 +233,89 @@ impl SoFar {
         ensures { IfOk result (λ so_far. so_far ≡ with_line self line.now) }
     {
         let key = line.key();
-        let last = Some(key);
-        let SoFar {
-            last: _,
-            shape,
-            finished,
-            opened,
-            starts,
-        } = self;
         match key {
-            Key::Program => Ok(SoFar {
-                last,
-                shape,
-                finished: finished_with(finished, opened)?,
-                opened: Some(Block::new(alloc, line.token(1))?),
-                starts,
-            }),
-            Key::Start => {
-                let finished = finished_with(finished, opened)?;
-                let starts = starts_with(starts, &finished, line)?;
-                Ok(SoFar {
-                    last,
-                    shape,
-                    finished,
-                    opened: None,
-                    starts,
-                })
-            }
-            Key::Code => Ok(SoFar {
-                last,
-                shape,
-                finished,
-                opened: opened_with_code(opened, line)?,
-                starts,
-            }),
-            Key::Data => Ok(SoFar {
-                last,
-                shape,
-                finished,
-                opened: opened_with_values(opened, line)?,
-                starts,
-            }),
+            Key::Program => self.with_program(alloc, line),
+            Key::Code => self.with_code(line),
+            Key::Data => self.with_values(line),
+            Key::Start => self.with_start(line),
+            Key::Panic => self.with_panic(alloc, line),
             _ => Ok(SoFar {
-                last,
-                shape: with_limit(key, line.number(1), shape),
-                finished,
-                opened,
-                starts,
+                last: Some(key),
+                shape: with_limit(key, line.number(1), self.shape),
+                ..self
             }),
         }
+    }
+
+    // What is said with a program line.
+    #[tactic(auto, unfolding(crate::specs::WorldReading::with_line))]
+    fn with_program(self, alloc: Global, line: &Line) -> Result<SoFar, AllocError>
+        requires program { key line.now ≡ ProgramKey }
+        requires room { length (programs_of self) < 16 }
+        ensures { IfOk result (λ so_far. so_far ≡ with_line self line.now) }
+    {
+        Ok(SoFar {
+            last: Some(Key::Program),
+            finished: finished_with(self.finished, self.opened)?,
+            opened: Some(Block::new(alloc, line.token(1))?),
+            ..self
+        })
+    }
+
+    // What is said with a code line.
+    #[tactic(auto, unfolding(crate::specs::WorldReading::with_line))]
+    fn with_code(self, line: &Line) -> Result<SoFar, AllocError>
+        requires code { key line.now ≡ CodeKey }
+        ensures { IfOk result (λ so_far. so_far ≡ with_line self line.now) }
+    {
+        Ok(SoFar {
+            last: Some(Key::Code),
+            opened: opened_with_code(self.opened, line)?,
+            ..self
+        })
+    }
+
+    // What is said with a data line.
+    #[tactic(auto, unfolding(crate::specs::WorldReading::with_line))]
+    fn with_values(self, line: &Line) -> Result<SoFar, AllocError>
+        requires values { key line.now ≡ DataKey }
+        ensures { IfOk result (λ so_far. so_far ≡ with_line self line.now) }
+    {
+        Ok(SoFar {
+            last: Some(Key::Data),
+            opened: opened_with_values(self.opened, line)?,
+            ..self
+        })
+    }
+
+    // What is said with a start line.
+    #[tactic(auto, unfolding(crate::specs::WorldReading::with_line))]
+    fn with_start(self, line: &Line) -> Result<SoFar, AllocError>
+        requires start { key line.now ≡ StartKey }
+        ensures { IfOk result (λ so_far. so_far ≡ with_line self line.now) }
+    {
+        let finished = finished_with(self.finished, self.opened)?;
+        let starts = starts_with(self.starts, &finished, line)?;
+        Ok(SoFar {
+            last: Some(Key::Start),
+            finished,
+            opened: None,
+            starts,
+            ..self
+        })
+    }
+
+    // What is said with a panic line.
+    #[tactic(auto, unfolding(crate::specs::WorldReading::with_line))]
+    fn with_panic(self, alloc: Global, line: &Line) -> Result<SoFar, AllocError>
+        requires panic { key line.now ≡ PanicKey }
+        ensures { IfOk result (λ so_far. so_far ≡ with_line self line.now) }
+    {
+        Ok(SoFar {
+            last: Some(Key::Panic),
+            panics: panics_with(alloc, self.panics, line)?,
+            ..self
+        })
     }
 
     /// What the line before is.
@@ -300,6 +336,22 @@ impl SoFar {
         ensures { result ≡ length self.now.starts }
     {
         self.starts.len()
+    }
+
+    pub fn panic_count(&self) -> usize
+        ensures { result ≡ length self.now.panics }
+    {
+        self.panics.len()
+    }
+
+    /// The trap of the panic line before, 0 where there is none.
+    pub fn last_trap(&self) -> u32
+        ensures { result ≡ last_trap self.now.panics }
+    {
+        match self.panics.last() {
+            Some(panic) => panic.trap,
+            None => 0,
+        }
     }
 
     /// The words of code of the block that is not finished.
@@ -395,6 +447,7 @@ impl SoFar {
             finished,
             opened,
             starts,
+            panics,
         } = self;
         Ok(World {
             load: Load {
@@ -405,7 +458,7 @@ impl SoFar {
             },
             typed0: List::new(Vec::new(alloc)),
             typed1: List::new(Vec::new(alloc)),
-            panics: List::new(Vec::new(alloc)),
+            panics: List::new(panics),
         })
     }
 
@@ -432,6 +485,24 @@ fn starts_with(
     all.push(Start {
         program: place_of(programs, line.token(1)),
         tty: line.number(2),
+    })?;
+    Ok(all)
+}
+
+// The panics, with that of a line.
+fn panics_with(
+    alloc: Global,
+    panics: Vec<PanicLine>,
+    line: &Line,
+) -> Result<Vec<PanicLine>, AllocError>
+    ensures { IfOk result (λ all. all.items ≡ panics.items ++ bare_panic (number_at 1 line.now) (number_at 2 line.now) ∷ []) }
+{
+    let mut all = panics;
+    all.push(PanicLine {
+        trap: line.number(1),
+        store: line.number(2),
+        damages: List::new(Vec::new(alloc)),
+        agains: List::new(Vec::new(alloc)),
     })?;
     Ok(all)
 }
