@@ -6,7 +6,7 @@ use Rattle.ow_plant.specs.State.{PlantState, risen, store_refused, with_put}
 use Rattle.phys_memory.specs.Memory.{words_of}
 use Rattle.record_layouts.specs.Held.{beside}
 use Rattle.record_layouts.specs.Reading.{records_in, records_of}
-use Rattle.intent_store.specs.Live.{IsUnstored, held_of, rest_of}
+use Rattle.intent_store.specs.Live.{IsUnstored, rest_of}
 use Rattle.word_store.specs.Stores.{KeepsUnstored}
 use Rattle.intent_store.proofs.Holding.{map_same}
 

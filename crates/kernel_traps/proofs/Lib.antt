@@ -38,3 +38,4 @@ pub mod UserServed
 pub mod KernelServed
 pub mod SoundImages
 pub mod Entries
+pub mod LeftTraps
