@@ -8,3 +8,4 @@ pub mod Reading
 pub mod Holding
 pub mod Direct
 pub mod Behind
+pub mod Unstored

@@ -48,6 +48,10 @@ pub record IsStanding (s : PlantState) : Type 0 where
 abbrev pub held_of : PlantState → Held PlantState
 held_of s = record { records = records_held s; contents = beside (records_held s).map.area_base (words_of s.memory); disk = []; rest = rest_of s }
 
+-- where no store is made at the end none was made before, and all that is held is as it was
+abbrev pub IsUnstored : (old new : PlantState) → Type 0
+IsUnstored old new = new.stores ≡ 0 → (old.stores ≡ 0) × (held_of new ≡ held_of old)
+
 -- what the intent block of the area says
 abbrev pub gate_held : PlantState → Gate
 gate_held s = gate_of (area_at (words_of s.memory) (map_of s).area_base)

@@ -4,7 +4,7 @@ ghost use Rattle.ow_plant.specs.State.{now_of, refuses, store_refused, tty_of, w
 ghost use Rattle.ow_plant.specs.declared.refusal.Refusal.TheVariants.{Store};
 ghost use Rattle.phys_memory.specs.Memory.{words_of};
 ghost use Rattle.record_layouts.specs.Reading.{FitsMap};
-ghost use Rattle.intent_store.specs.Live.{map_of};
+ghost use Rattle.intent_store.specs.Live.{IsUnstored, map_of};
 
 use crate::commit::commit;
 use crate::frames::{copy_frame, zero_frame};
@@ -59,7 +59,7 @@ impl Live<'_> {
         ensures ok { OnOk result (self.new.plant.now ≡ with_put self.old.plant.now tty byte) }
         ensures err { OnErr result (self.new.plant.now ≡ store_refused self.old.plant.now) }
         ensures cause { OnErr result (self.old.plant.now.refusal ≡ None → self.new.plant.now.refusal ≡ Some Store) }
-        ensures none_made { OnErr result (self.new.plant.now.stores ≡ 0 → words_of self.new.plant.now.memory ≡ words_of self.old.plant.now.memory) }
+        ensures unstored { IsUnstored self.old.plant.now self.new.plant.now }
         ensures same_reference { self.new.plant.ghost_name ≡ self.old.plant.ghost_name }
     {
         self.plant.put(tty, byte)
@@ -194,7 +194,7 @@ impl Writer for Live<'_> {
     ghost use Rattle.record_layouts.specs.Held.{IsBeside, IsCommittable, IsDirect, IsDirectFrame, IsPartly, copied, patched, stored, zeroed};
     ghost use Rattle.record_layouts.specs.declared.intent.Gate.TheVariants.{Closed};
     ghost use Rattle.ow_plant.specs.State.{PlantState, is_refused};
-    ghost use Rattle.intent_store.specs.Live.{IsStanding, gate_held, held_of, may_refuse, records_held, rest_of};
+    ghost use Rattle.intent_store.specs.Live.{IsStanding, IsUnstored, gate_held, held_of, may_refuse, records_held, rest_of};
 
     ghost Rest = { PlantState };
 
@@ -228,7 +228,7 @@ impl Writer for Live<'_> {
             ⊎ (held_of self.new.plant.now ≡ patched patch.now (held_of self.old.plant.now))) }
         ensures stays { OnOk result (self.new.plant.now.refusal ≡ None) }
         ensures cause { OnErr result (self.new.plant.now.refusal ≡ Some Store) }
-        ensures none_made { OnErr result (self.new.plant.now.stores ≡ 0 → words_of self.new.plant.now.memory ≡ words_of self.old.plant.now.memory) }
+        ensures unstored { IsUnstored self.old.plant.now self.new.plant.now }
         ensures allowed { OnErr result (may_refuse self.old.plant.now ≡ true) }
         ensures still_stands { IsStanding self.new.plant.now }
         ensures place { self.new.plant.ghost_name ≡ self.old.plant.ghost_name }
@@ -246,7 +246,7 @@ impl Writer for Live<'_> {
         ensures err { OnErr result (held_of self.new.plant.now ≡ held_of self.old.plant.now) }
         ensures stays { OnOk result (self.new.plant.now.refusal ≡ None) }
         ensures cause { OnErr result (self.new.plant.now.refusal ≡ Some Store) }
-        ensures none_made { OnErr result (self.new.plant.now.stores ≡ 0 → words_of self.new.plant.now.memory ≡ words_of self.old.plant.now.memory) }
+        ensures unstored { IsUnstored self.old.plant.now self.new.plant.now }
         ensures allowed { OnErr result (may_refuse self.old.plant.now ≡ true) }
         ensures still_stands { IsStanding self.new.plant.now }
         ensures place { self.new.plant.ghost_name ≡ self.old.plant.ghost_name }
@@ -265,7 +265,7 @@ impl Writer for Live<'_> {
         ensures err { OnErr result (IsPartly (copied (held_of self.old.plant.now) from to) (held_of self.new.plant.now)) }
         ensures stays { OnOk result (self.new.plant.now.refusal ≡ None) }
         ensures cause { OnErr result (self.new.plant.now.refusal ≡ Some Store) }
-        ensures none_made { OnErr result (self.new.plant.now.stores ≡ 0 → words_of self.new.plant.now.memory ≡ words_of self.old.plant.now.memory) }
+        ensures unstored { IsUnstored self.old.plant.now self.new.plant.now }
         ensures allowed { OnErr result (may_refuse self.old.plant.now ≡ true) }
         ensures still_stands { IsStanding self.new.plant.now }
         ensures place { self.new.plant.ghost_name ≡ self.old.plant.ghost_name }
@@ -283,7 +283,7 @@ impl Writer for Live<'_> {
         ensures err { OnErr result (IsPartly (zeroed (held_of self.old.plant.now) frame) (held_of self.new.plant.now)) }
         ensures stays { OnOk result (self.new.plant.now.refusal ≡ None) }
         ensures cause { OnErr result (self.new.plant.now.refusal ≡ Some Store) }
-        ensures none_made { OnErr result (self.new.plant.now.stores ≡ 0 → words_of self.new.plant.now.memory ≡ words_of self.old.plant.now.memory) }
+        ensures unstored { IsUnstored self.old.plant.now self.new.plant.now }
         ensures allowed { OnErr result (may_refuse self.old.plant.now ≡ true) }
         ensures still_stands { IsStanding self.new.plant.now }
         ensures place { self.new.plant.ghost_name ≡ self.old.plant.ghost_name }

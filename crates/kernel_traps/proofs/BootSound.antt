@@ -156,4 +156,5 @@ module _ (load : Load) (old new : PlantState) (b : IsMade load old new) where
     points = ap (λ (s : PlantState). s.points) rest;
     live = ap (λ (s : PlantState). s.live) rest;
     history = ap (λ (s : PlantState). s.history) rest;
+    reviving = ap (λ (s : PlantState). s.reviving) rest;
   }

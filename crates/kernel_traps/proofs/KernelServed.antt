@@ -201,6 +201,7 @@ returned_settled s at slot sound in_kernel own is sound_at =
         points = ap (λ (n : PlantState). n.points) is.loaded;
         live = ap (λ (n : PlantState). n.live) is.loaded;
         history = ap (λ (n : PlantState). n.history) is.loaded;
+        reviving = ap (λ (n : PlantState). n.reviving) is.loaded;
       };
     }
 

@@ -1,77 +1,114 @@
--- A plan of a trap that writes on a terminal writes at most 16 bytes.
-use Rattle.std.proofs.Common.{◌==◌, ◌+◌, ◌≤◌, ℕ, nat_lt, Option, Some, None, inl, inr, arith}
+-- What the plan of a trap writes is short: at most 16 bytes, on a terminal that there is.
+use Rattle.std.proofs.Common.{◌≡◌, ◌==◌, ◌+◌, ◌-◌, ◌<◌, ℕ, nat_lt, false, List, slice_get, Option, Some, None, IfSome, inl, inr, arith}
 use Rattle.std.proofs.lemmas.Bool.{cases_Bool}
+use Rattle.std.proofs.lemmas.Bool.Decides.{nat_tests}
 use Rattle.ow_base.specs.Pages.{Pages, is_readable}
+use Rattle.phys_memory.specs.Memory.{words_of}
 use Rattle.record_layouts.specs.declared.desc.DescRec.{DescRec}
 use Rattle.record_layouts.specs.declared.head.HeadRec.{HeadRec}
+use Rattle.record_layouts.specs.declared.places.RecordId.TheVariants as id
 use Rattle.record_layouts.specs.declared.proc.ProcRec.{ProcRec}
 use Rattle.record_layouts.specs.declared.traps.Trap.{Trap}
 use Rattle.record_layouts.specs.declared.traps.Trap.TheVariants as trap
-use Rattle.record_layouts.specs.Held.{Records}
+use Rattle.record_layouts.specs.Desc.{FitsDesc}
+use Rattle.record_layouts.specs.Held.{AreValues, Records}
+use Rattle.record_layouts.specs.Pages.{pages_of}
 use Rattle.record_layouts.specs.Unix.Calls.{tty_piece}
-use Rattle.syscalls.specs.Planned.{Planned, PlanOnce, PlanWrite, argument_of, caller_with, is_written, named, planned_call, planned_further, planned_number, planned_of_call, planned_on, planned_piece, planned_tty, planned_write, planned_write_on}
-use Rattle.ow_plant.specs.State.{PlantState}
+use Rattle.ow_base.specs.UserStep.{register}
+use Rattle.process_table.specs.Patches.{saved_process}
+use Rattle.syscalls.specs.Planned.{argument_of, caller_with, if_open, is_written, named, named_by, planned_call, planned_further, planned_number, planned_of_call, planned_on, planned_piece, planned_tty, planned_write, planned_write_on}
+use Rattle.ow_plant.specs.State.{PlantState, now_of}
+use Rattle.intent_store.specs.Live.{records_held}
 use Rattle.kernel_traps.specs.Traps.{plan_for}
+use Rattle.kernel_traps.proofs.Carried.{IsShort}
 
-abbrev pub IsFew : Planned → Type 0
-IsFew (PlanOnce items) = Unit {0}
-IsFew (PlanWrite tty from len items) = len ≤ 16
+-- a description that is on no file is on a terminal, or on nothing and has the number 0
+on_terminal : (d : DescRec) → FitsDesc d → (d.object == 1) ≡ false → d.index < 2
+on_terminal d (inl closed) other = omega (arith, closed.index)
+on_terminal d (inr (inl file)) other = absurd (let object = file.object in grind (arith, nat_tests, other, object))
+on_terminal d (inr (inr terminal)) other = omega (arith, terminal.index)
 
--- the plans of the calls of a process
-module _ (slot trap : ℕ) (head : HeadRec) (process : ProcRec) where
-  few_on_tty : (pages : Pages) (tty done : ℕ) → IsFew (planned_tty pages (caller_with slot trap head process) tty done)
+-- what a descriptor names can be spelled
+open_fits : (held : Option DescRec) → IfSome held FitsDesc → IfSome (if_open held) FitsDesc
+open_fits None fits = tt
+open_fits (Some d) fits = elim (cases_Bool (d.object == 0)) [ inl none ↦ rw none tt | inr some ↦ rw some fits ]
+
+named_by_fits : (r : Records) → AreValues r → (held : Option ℕ) → IfSome (named_by r.descs held) FitsDesc
+named_by_fits r values None = tt
+named_by_fits r values (Some word) = elim (cases_Bool (word == 0)) [
+  | inl none ↦ rw none tt
+  | inr some ↦ rw some (open_fits (r.descs (word - 1)) (values (id.Desc (word - 1))))
+]
+
+named_fits : (r : Records) → AreValues r → (words : List ℕ) (descriptor : ℕ) → IfSome (named r words descriptor) FitsDesc
+unfolding named
+named_fits r values words descriptor = named_by_fits r values (slice_get words descriptor)
+
+module _ (r : Records) (values : AreValues r) (pages : Pages) (slot trap : ℕ) (head : HeadRec) (process : ProcRec) where
+  tty_short : (tty done : ℕ) → tty < 2 → IsShort (planned_tty pages (caller_with slot trap head process) tty done)
   unfolding planned_tty
-  few_on_tty pages tty done =
-      let piece = tty_piece (argument_of process 2) done in
-      elim (cases_Bool (is_readable pages (argument_of process 1 + done) piece)) [ inl all ↦ rw all (omega arith) | inr some ↦ rw some tt ]
+  tty_short tty done low = elim (cases_Bool (is_readable pages (argument_of process 1 + done) (tty_piece (argument_of process 2) done))) [
+    | inl all ↦ rw all (low, omega arith)
+    | inr some ↦ rw some tt
+  ]
 
-  few_on : (pages : Pages) (d : DescRec) (done : ℕ) → IsFew (planned_on pages (caller_with slot trap head process) d done)
-  few_on pages d done = elim (cases_Bool (d.object == 1)) [ inl file ↦ rw file tt | inr terminal ↦ rw terminal (few_on_tty pages d.index done) ]
+  object_short : (d : DescRec) (done : ℕ) → FitsDesc d → IsShort (planned_on pages (caller_with slot trap head process) d done)
+  object_short d done fits = elim (cases_Bool (d.object == 1)) [
+    | inl file ↦ rw file tt
+    | inr other ↦ rw other (tty_short d.index done (on_terminal d fits other))
+  ]
 
-  few_in_write : (pages : Pages) (held : Option DescRec) → IsFew (planned_write_on pages (caller_with slot trap head process) held)
+  write_short : (held : Option DescRec) → IfSome held FitsDesc → IsShort (planned_write_on pages (caller_with slot trap head process) held)
   unfolding planned_write_on
-  few_in_write pages None = tt
-  few_in_write pages (Some d) = elim (cases_Bool (is_written d)) [
+  write_short None fits = tt
+  write_short (Some d) fits = elim (cases_Bool (is_written d)) [
     | inr reads ↦ rw reads tt
     | inl writes ↦ elim (cases_Bool (nat_lt 0x7fffffff (argument_of process 2))) [
-      | inl long ↦ rw (writes, long) tt
-      | inr short ↦ elim (cases_Bool (argument_of process 2 == 0)) [
-        | inl none ↦ rw (writes, short, none) tt
-        | inr some ↦ rw (writes, short, some) (few_on pages d 0)
+      | inl many ↦ rw (writes, many) tt
+      | inr few ↦ elim (cases_Bool (argument_of process 2 == 0)) [
+        | inl none ↦ rw (writes, few, none) tt
+        | inr some ↦ rw (writes, few, some) (object_short d 0 fits)
       ]
     ]
   ]
 
-  few_by_number : (r : Records) (pages : Pages) (number : ℕ) → IsFew (planned_number r pages (caller_with slot trap head process) number)
+  number_short : (number : ℕ) → IsShort (planned_number r pages (caller_with slot trap head process) number)
   unfolding planned_number planned_write
-  few_by_number r pages number = elim (cases_Bool (number == 1)) [
-    | inl ends ↦ rw ends tt
-    | inr lives ↦ elim (cases_Bool (number == 2)) [
-      | inl writes ↦ rw (lives, writes) (few_in_write pages (named r process.descs (argument_of process 0)))
-      | inr other ↦ elim (cases_Bool (number == 7)) [
-        | inl asks ↦ rw (lives, other, asks) tt
-        | inr else ↦ elim (cases_Bool (number == 18)) [ inl yields ↦ rw (lives, other, else, yields) tt | inr none ↦ rw (lives, other, else, none) tt ]
+  number_short number = elim (cases_Bool (number == 1)) [
+    | inl exits ↦ rw exits tt
+    | inr no_exit ↦ elim (cases_Bool (number == 2)) [
+      | inl writes ↦ rw (no_exit, writes) (write_short (named r process.descs (argument_of process 0)) (named_fits r values process.descs (argument_of process 0)))
+      | inr no_write ↦ elim (cases_Bool (number == 7)) [
+        | inl asks ↦ rw (no_exit, no_write, asks) tt
+        | inr no_pid ↦ elim (cases_Bool (number == 18)) [
+          | inl yields ↦ rw (no_exit, no_write, no_pid, yields) tt
+          | inr none ↦ rw (no_exit, no_write, no_pid, none) tt
+        ]
       ]
     ]
   ]
 
-  few_further : (pages : Pages) (held : Option DescRec) → IsFew (planned_further pages (caller_with slot trap head process) held)
-  few_further pages (Some d) = few_on pages d process.done
-  few_further pages None = tt
+  further_short : (held : Option DescRec) → IfSome held FitsDesc → IsShort (planned_further pages (caller_with slot trap head process) held)
+  further_short None fits = tt
+  further_short (Some d) fits = object_short d process.done fits
 
-  few_of_call : (r : Records) (pages : Pages) → IsFew (planned_of_call r pages (caller_with slot trap head process))
-  few_of_call r pages = elim (cases_Bool (process.call == 2)) [
-    | inl writes ↦ rw writes (few_further pages (named r process.descs (argument_of process 0)))
+  piece_short : IsShort (planned_of_call r pages (caller_with slot trap head process))
+  piece_short = elim (cases_Bool (process.call == 2)) [
+    | inl writes ↦ rw writes (further_short (named r process.descs (argument_of process 0)) (named_fits r values process.descs (argument_of process 0)))
     | inr other ↦ rw other tt
   ]
 
-pub are_few : (s : PlantState) (t : Trap) (slot : ℕ) (head : HeadRec) (process : ProcRec) → IsFew (plan_for s t slot head process)
+-- so is what each trap writes: only a call, or a further piece of one, does
+pub plan_short : (s : PlantState) (t : Trap) (slot : ℕ) (head : HeadRec) (process : ProcRec) → AreValues (records_held s) → IsShort (plan_for s t slot head process)
 unfolding planned_call planned_piece
-are_few s (trap.Entry pid) slot head process = few_by_number slot _ head _ _ _ _
-are_few s (trap.Piece pid) slot head process = few_of_call slot _ head process _ _
-are_few s (trap.Fault pid cause) slot head process = tt
-are_few s (trap.Slice pid) slot head process = tt
-are_few s (trap.Signal pid signal) slot head process = tt
-are_few s trap.Idle slot head process = tt
-are_few s (trap.Closing (Some pid)) slot head process = tt
-are_few s (trap.Closing None) slot head process = tt
+plan_short s (trap.Entry pid) slot head process values =
+    number_short (records_held s) values (pages_of (records_held s) (words_of s.memory) slot process)
+    slot (now_of s).trap head (saved_process process s.bank) (register s.bank.regs 17)
+plan_short s (trap.Piece pid) slot head process values =
+    piece_short (records_held s) values (pages_of (records_held s) (words_of s.memory) slot process) slot (now_of s).trap head process
+plan_short s (trap.Fault pid cause) slot head process values = tt
+plan_short s (trap.Slice pid) slot head process values = tt
+plan_short s (trap.Signal pid signal) slot head process values = tt
+plan_short s trap.Idle slot head process values = tt
+plan_short s (trap.Closing (Some pid)) slot head process values = tt
+plan_short s (trap.Closing None) slot head process values = tt

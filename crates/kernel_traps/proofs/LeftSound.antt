@@ -26,7 +26,7 @@ use Rattle.kernel_traps.proofs.Carried.{IsShort}
 use Rattle.kernel_traps.proofs.Decoding.{pid_had}
 use Rattle.kernel_traps.proofs.Entering.{MayTrap, steps_begun, traps_begun}
 use Rattle.kernel_traps.proofs.LeftSoundHeld.{IsHeldLeft, left_of_plan}
-use Rattle.kernel_traps.proofs.LeftSoundPlans.{plan_short}
+use Rattle.kernel_traps.proofs.LeftPlans.{plan_short}
 use Rattle.kernel_traps.proofs.TrapKinds.{HasBegun, trap_begun, trap_ends}
 
 -- What is left of a trap that came on a plant: it is sound at a panic, and beside it nothing changes but what the begin of

@@ -31,7 +31,7 @@ use Rattle.kernel_traps.proofs.Carried.{IsKept, IsShort, kept}
 use Rattle.kernel_traps.proofs.Decoding.{pid_had}
 use Rattle.kernel_traps.proofs.Done.{done as write_done}
 use Rattle.kernel_traps.proofs.Entering.{MayTrap, begins, steps_begun, traps_begun}
-use Rattle.kernel_traps.proofs.LeftPlans.{IsFew, are_few}
+use Rattle.kernel_traps.proofs.LeftPlans.{plan_short}
 use Rattle.kernel_traps.proofs.LeftRecords.{IsContextBy, IsHandedOf, left_by, left_done, left_undone}
 use Rattle.kernel_traps.proofs.Stays.{room_held, unix_same}
 use Rattle.kernel_traps.proofs.TrapKinds.{HasBegun, law, there_in, trap_begun, trap_ends}
@@ -102,10 +102,6 @@ low_put b tty counted out new put =
     let (terminal, there) = counted_there counted ((records_held b).terms tty) (new.records.terms tty) put.drawn.counted in
     low_there b tty terminal there
 
-short_by : (b : PlantState) (slot : ℕ) (plan : Planned) (new : Held PlantState) → IsFew plan → IsCarriedOut b slot plan new → IsShort plan
-short_by b slot (PlanOnce items) new few is = tt
-short_by b slot (PlanWrite tty from len items) new few (put, is, last) = (low_put b tty (bytes_of b slot from len) (bytes_of b slot from len) put is, few)
-
 -- there is room in the counts for the bytes of a piece
 pub small_by : (b : PlantState) (steps slot tty from len : ℕ) → IsInTrap b steps → b.shape.budget ≤ 2000000 → tty < 2 → len ≤ 16
     → length (tapes_of b tty) + length (bytes_of b slot from len) < 2 ^ 32
@@ -171,8 +167,8 @@ module _ (s : PlantState) (t : Trap) (may : MayTrap s t) (due : IsDue s t) (slot
       ∙ ((λ i. left_by h (same i).records (words_of s.memory) (tapes_of (same i).rest) b.steps b.traps)
       ∙ undone_with (records_held b) (tapes_of b) head is_head is_head)
 
-  pub few : (plan : Planned) → IsPlanOf b t slot plan → IsFew plan
-  few plan is = subst IsFew (sym is.planned) (are_few b t slot is.head is.process)
+  pub short : (plan : Planned) → IsPlanOf b t slot plan → IsShort plan
+  short plan is = subst IsShort (sym is.planned) (plan_short b t slot is.head is.process in_trap.held.records.values)
 
   pub there : (plan : Planned) (is : IsPlanOf b t slot plan) → (records_held s).procs slot ≡ Some is.process
   there plan is = there_in (records_held s) (pid_of t) slot is.process is.has.seat
@@ -180,7 +176,7 @@ module _ (s : PlantState) (t : Trap) (may : MayTrap s t) (due : IsDue s t) (slot
   pub keeps : (plan : Planned) (new : PlantState) → IsPlanOf b t slot plan → IsCarriedOut b slot plan (held_of new) → IsKept b new
   keeps plan new is carried =
       let (steps, trap, step) = trap_begun s b t slot plan (plan_begun plan is) in
-      kept b new steps slot plan trap may.most step (trap_ends s b t slot plan (plan_begun plan is)) (short_by b slot plan (held_of new) (few plan is) carried) carried
+      kept b new steps slot plan trap may.most step (trap_ends s b t slot plan (plan_begun plan is)) (short plan is) carried
 
   -- the state that the plan makes
   pub made_by : (plan : Planned) (is : IsPlanOf b t slot plan) (done : Records) (tapes : ℕ → List ℕ)
@@ -194,8 +190,7 @@ module _ (s : PlantState) (t : Trap) (may : MayTrap s t) (due : IsDue s t) (slot
   unfolding unix_at unix_of
   all_left plan new is carried =
       let k = keeps plan new is carried in
-      let short = short_by b slot plan (held_of new) (few plan is) carried in
-      let made = made_by plan is (records_held new) (tapes_of new) (plan_done b new slot s.steps is.process plan in_trap may.most (there plan is) short carried) in
+      let made = made_by plan is (records_held new) (tapes_of new) (plan_done b new slot s.steps is.process plan in_trap may.most (there plan is) (short plan is) carried) in
       let done : is_undone h (Some k.head) ≡ false = let served = k.served in grind (arith, nat_tests, served) in
       left_at b new k.tty0 k.tty1 (carrier b new slot plan carried) k.rest
       ∙ ((λ i. left_by h (records_held new) (words_of s.memory) (tapes_of new) (steps_begun s t may i) (traps_begun s t may i))

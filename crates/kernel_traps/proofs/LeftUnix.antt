@@ -34,7 +34,7 @@ use Rattle.kernel_traps.specs.Traps.{IsDue, IsPlanOf, begun_by}
 use Rattle.kernel_traps.proofs.Done.{told_by as counted_told}
 use Rattle.kernel_traps.proofs.Entering.{MayTrap}
 use Rattle.kernel_traps.proofs.LeftPut.{IsPutTo, bytes_are, partly_is, put_all, put_to, put_unix}
-use Rattle.kernel_traps.proofs.LeftTraps.{all_left, below, counted_there, few, in_trap, keeps, left_at, low_put, made_by, nothing_left, plan_begun, small_by, there, told_on, undone_with}
+use Rattle.kernel_traps.proofs.LeftTraps.{all_left, below, counted_there, in_trap, keeps, left_at, low_put, made_by, nothing_left, plan_begun, short, small_by, there, told_on, undone_with}
 use Rattle.kernel_traps.proofs.OfProcesses.{same_terms}
 use Rattle.kernel_traps.proofs.Puts.{puts_beside}
 use Rattle.kernel_traps.proofs.TrapKinds.{trap_ends}
@@ -88,7 +88,7 @@ module _ (s : PlantState) (t : Trap) (may : MayTrap s t) (due : IsDue s t) (slot
       let written = counting r (tapes_of s) tty bytes terminal in
       let tapes = with_all r (tapes_of s) tty bytes terminal in
       let told = told_on b s.steps tty (in_trap s t may due slot) low in
-      let small = small_by b s.steps slot tty from len (in_trap s t may due slot) may.most low (few s t may due slot plan is) in
+      let small = small_by b s.steps slot tty from len (in_trap s t may due slot) may.most low (short s t may due slot plan is).1 in
       let are : AreWritten r (tapes_of s) tty bytes written tapes = are_written r (tapes_of s) tty bytes terminal counts
       (subst (λ (tape : List ℕ). AreCountedBy bytes (tapes_of s tty) tape (r.terms tty) (written.terms tty)) (sym (set_here (tapes_of s) tty (tapes_of s tty ++ bytes)))
       (counted_told bytes (tapes_of s tty) (r.terms tty) (written.terms tty) told small
@@ -115,7 +115,7 @@ module _ (s : PlantState) (t : Trap) (may : MayTrap s t) (due : IsDue s t) (slot
       let words = words_of s.memory in
       let low = low_put b tty counted part.out (held_of new) part.put in
       let told = told_on b s.steps tty (in_trap s t may due slot) low in
-      let all = small_by b s.steps slot tty from len (in_trap s t may due slot) may.most low (few s t may due slot plan is) in
+      let all = small_by b s.steps slot tty from len (in_trap s t may due slot) may.most low (short s t may due slot plan is).1 in
       let small : length (tapes_of b tty) + length counted < 2 ^ 32 = omega (arith, all, length-take part.count bytes) in
       let (terminal, counts) = counted_there counted ((records_held b).terms tty) ((records_held new).terms tty) part.put.drawn.counted in
       let after = after_write tty from len items terminal is low counts in

@@ -9,7 +9,7 @@ pub mod OfProcesses
 pub mod ShownSound
 pub mod Terminals
 pub mod Carried
-pub mod LeftSoundPlans
+pub mod LeftPlans
 pub mod LeftSoundTapes
 pub mod LeftSoundHeld
 pub mod LeftSound
@@ -45,6 +45,6 @@ pub mod SoundImages
 pub mod Entries
 pub mod LeftRecords
 pub mod LeftPut
-pub mod LeftPlans
 pub mod LeftTraps
 pub mod LeftUnix
+pub mod LeftTurns

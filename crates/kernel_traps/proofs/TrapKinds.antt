@@ -34,12 +34,12 @@ use Rattle.syscalls.specs.Serving.{CanCall, IsDoable, plan_of}
 use Rattle.syscalls.proofs.Becoming.{caller_decodes}
 use Rattle.syscalls.proofs.Exported.{entered_then, goes_on_then}
 use Rattle.ow_plant.specs.State.{PlantState, entered, risen}
-use Rattle.intent_store.specs.Live.{records_held}
-use Rattle.word_store.proofs.Outcomes.{on_err}
+use Rattle.intent_store.specs.Live.{IsStanding, IsUnstored, held_of, records_held}
 use Rattle.ow_plant.specs.Images.{tapes_of}
 use Rattle.kernel_traps.specs.Plants.{IsHeldSound, IsInTrap, IsSound, unix_at}
 use Rattle.kernel_traps.specs.Ending.{CanBeServed, EndsTrap, HasStep, IsEnded, MayBeLeftOfPlan}
-use Rattle.kernel_traps.specs.Traps.{CanHave, IsHad, IsInMode, IsLiveAs, IsPlanOf, IsSlotOf, IsTrapMade, MayBeLeftOfTrap, begun_by, plan_for, served_items, signal_items_by, user_before}
+use Rattle.kernel_traps.specs.Traps.{CanHave, IsHad, IsInMode, IsLiveAs, IsPlanOf, IsSlotOf, IsTrapMade, begun_by, plan_for, served_items, signal_items_by, user_before}
+use Rattle.kernel_traps.specs.Refused.{IsRefusedIn}
 use Rattle.kernel_traps.proofs.Entering.{MayTrap, begins, steps_begun}
 use Rattle.kernel_traps.proofs.Plans.{call_ends, ended_ends, piece_ends, saved_ends, served_ends, signal_ends_trap}
 use Rattle.kernel_traps.proofs.Serves.{closed_in_user, closed_unix, idle_unix}
@@ -329,6 +329,11 @@ trap_done (Ok x) s b new t slot service has mode doable ended sound =
     (subst (λ (b : PlantState). IsEnded b slot (plan_of service) new) has.same ended) sound
 trap_done (Err e) s b new t slot service has mode doable ended sound = tt
 
-pub trap_left : {E : Type 0} (r : Result (Unit {0}) E) (s b new : PlantState) (t : Trap) (slot : ℕ) (plan : Planned) → HasBegun s b t slot plan
-    → OnErr r (MayBeLeftOfPlan b slot plan new) → OnErr r (MayBeLeftOfTrap s t new)
-trap_left r s b new t slot plan has = on_err r _ _ (λ left. (slot, plan, has.is, subst (λ (b : PlantState). MayBeLeftOfPlan b slot plan new) has.same left))
+pub trap_refused : {E : Type 0} (r : Result (Unit {0}) E) (s b new : PlantState) (t : Trap) (slot : ℕ) (plan : Planned) → HasBegun s b t slot plan
+    → OnErr r (MayBeLeftOfPlan b slot plan new) → OnErr r (IsUnstored b new) → OnErr r (IsStanding new) → OnErr r (IsRefusedIn s t new)
+trap_refused (Ok x) s b new t slot plan has left unstored stands = tt
+trap_refused (Err e) s b new t slot plan has left unstored stands = record {
+  left = (slot, plan, has.is, subst (λ (b : PlantState). MayBeLeftOfPlan b slot plan new) has.same left);
+  unstored = λ none. (unstored none).1 ∙ ap (λ (p : PlantState). held_of p) has.same;
+  stands = stands;
+}

@@ -35,6 +35,7 @@ pub record IsCarrier (old new : PlantState) : Type 0 where
   pub live : new.live ≡ old.live
   pub points : new.points ≡ old.points
   pub history : new.history ≡ old.history
+  pub reviving : new.reviving ≡ old.reviving
   pub in_user : new.in_user ≡ old.in_user
   pub steps : new.steps ≡ old.steps
   pub traps : new.traps ≡ old.traps
@@ -47,6 +48,7 @@ by_rest old new tty0 tty1 contents rest = record {
   live = ap (λ (s : PlantState). s.live) rest;
   points = ap (λ (s : PlantState). s.points) rest;
   history = ap (λ (s : PlantState). s.history) rest;
+  reviving = ap (λ (s : PlantState). s.reviving) rest;
   in_user = ap (λ (s : PlantState). s.in_user) rest;
   steps = ap (λ (s : PlantState). s.steps) rest;
   traps = ap (λ (s : PlantState). s.traps) rest;
@@ -124,5 +126,5 @@ trap_made s new t slot process x after may there doable law (done, out, left) so
       unix = ap (λ (p : PlantState). unix_at p) left ∙ unix;
       steps = ap (λ (p : PlantState). p.steps) left ∙ (is.steps ∙ steps);
       traps = ap (λ (p : PlantState). p.traps) left ∙ (is.traps ∙ traps);
-      same = subst (IsSameMachine s) (sym left) (record { shape = is.shape; points = is.points; live = is.live; history = is.history });
+      same = subst (IsSameMachine s) (sym left) (record { shape = is.shape; points = is.points; live = is.live; history = is.history; reviving = is.reviving });
     }

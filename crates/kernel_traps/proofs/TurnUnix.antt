@@ -58,6 +58,7 @@ same_then a b c first then = record {
   points = then.points ∙ first.points;
   live = then.live ∙ first.live;
   history = then.history ∙ first.history;
+  reviving = then.reviving ∙ first.reviving;
 }
 
 -- a plant that is settled as it is
@@ -69,7 +70,7 @@ stays_settled s sound live stays = record {
   live = live;
   steps = refl;
   traps = refl;
-  same = record { shape = refl; points = refl; live = refl; history = refl };
+  same = record { shape = refl; points = refl; live = refl; history = refl; reviving = refl };
 }
 
 pub user_stays : (s : PlantState) → s.in_user ≡ true → settled no_keys (unix_at s) ≡ unix_at s

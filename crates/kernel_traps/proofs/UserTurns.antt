@@ -199,7 +199,7 @@ module _ (s : PlantState) (sound : IsSound s) (in_user : s.in_user ≡ true) (sl
         turn = unix_now memory satp bank is.fits left most pages same ∙ sym (turn_made regs pc pages going step);
         steps = one_more memory satp bank is.fits left most;
         traps = refl;
-        same = record { shape = refl; points = refl; live = refl; history = refl };
+        same = record { shape = refl; points = refl; live = refl; history = refl; reviving = refl };
       }
 
   by_step : (new : PlantState) (result : UserEnd) (made : Stepped Seen) (paged : Stepped Pages) → s.steps < s.shape.budget → s.shape.budget ≤ 2000000

@@ -6,7 +6,7 @@ use Rattle.record_layouts.specs.Unix.Traps.{steps_in, trap_at, trap_of_turn}
 use Rattle.record_layouts.specs.Unix.State.{AtUser}
 use Rattle.ow_plant.specs.State.{PlantState}
 use Rattle.kernel_traps.specs.Plants.{IsSound, unix_at}
-use Rattle.kernel_traps.specs.Traps.{IsDue, MayBeLeftOfTrap}
+use Rattle.kernel_traps.specs.Traps.{IsDue}
 use Rattle.kernel_traps.specs.Turning.{AllHaveEnded, IsSameMachine, IsSomeLive, IsTurned}
 use Rattle.kernel_traps.specs.User.{IsReturned, IsStepped}
 use Rattle.kernel_traps.specs.declared.turns.Next.{Next}
@@ -42,7 +42,3 @@ IsNextInUser old at next.Step = IsStepped old at
 IsNextInUser old at (next.Trap t) =
     (at ≡ old) × (trap_at no_keys old.shape.quantum (unix_at old) (AtUser old.user_pid old.slice) ≡ Some t) × (steps_in t ≡ 1) × IsDue old t
 IsNextInUser old at next.AllEnded = ⊥
-
--- what a refusal may leave of a turn: a part of the trap that was next
-abbrev pub MayBeLeftOfTurn : (old new : PlantState) → Type 0
-MayBeLeftOfTurn old new = (at : PlantState) × (t : Trap) × IsTrapNext old at t × MayBeLeftOfTrap at t new

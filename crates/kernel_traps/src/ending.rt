@@ -1,7 +1,7 @@
 //! The end of a trap.
 ghost use Rattle.std.specs.Prelude.{◌≡◌, ℕ, ◌<◌, false, true, OnOk, OnErr};
 ghost use Rattle.phys_memory.specs.Memory.{words_of};
-ghost use Rattle.intent_store.specs.Live.{may_refuse, records_held};
+ghost use Rattle.intent_store.specs.Live.{IsStanding, IsUnstored, may_refuse, records_held};
 ghost use Rattle.syscalls.specs.Serving.{IsDoable, plan_of};
 ghost use Rattle.kernel_traps.specs.Plants.{IsInTrap, IsSound};
 ghost use Rattle.kernel_traps.specs.Ending.{CanBeServed, EndsTrap, HasStep, IsEnded, MayBeLeftOfPlan};
@@ -22,6 +22,8 @@ pub(crate) fn end_trap(plant: &mut Plant, slot: u32, service: &Service) -> Resul
     ensures ok { OnOk result (IsEnded plant.old slot (plan_of service.now) plant.new) }
     ensures sound { OnOk result (IsSound plant.new) }
     ensures err { OnErr result (MayBeLeftOfPlan plant.old slot (plan_of service.now) plant.new) }
+    ensures unstored { OnErr result (IsUnstored plant.old plant.new) }
+    ensures stands { OnErr result (IsStanding plant.new) }
     ensures passed { OnOk result (may_refuse plant.old ≡ false) }
     ensures allowed { OnErr result (may_refuse plant.old ≡ true) }
 {

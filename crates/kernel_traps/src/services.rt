@@ -6,7 +6,7 @@ ghost use Rattle.record_layouts.specs.declared.intent.Gate.TheVariants.{Closed};
 ghost use Rattle.record_layouts.specs.Held.{IsCommittable};
 ghost use Rattle.ow_plant.specs.declared.refusal.Refusal.TheVariants as refusal;
 ghost use Rattle.ow_plant.specs.State.{tty_of};
-ghost use Rattle.intent_store.specs.Live.{IsStanding, gate_held, held_of, may_refuse, records_held};
+ghost use Rattle.intent_store.specs.Live.{IsStanding, IsUnstored, gate_held, held_of, may_refuse, records_held};
 ghost use Rattle.syscalls.specs.Planned.{items_in, pages_in};
 ghost use Rattle.syscalls.specs.Serving.{CanCall, IsDoable, IsWritable, plan_of};
 ghost use Rattle.tty_screen.specs.Shown.{TerminalDecodes};
@@ -38,6 +38,7 @@ fn put_byte(live: &mut Live<'_>, tty: u32, byte: u8) -> Result<(), Panicked>
     ensures stays { OnOk result (live.new.plant.now.refusal ≡ None) }
     ensures cause { OnErr result (live.new.plant.now.refusal ≡ Some refusal.Store) }
     ensures allowed { OnErr result (may_refuse live.old.plant.now ≡ true) }
+    ensures unstored { IsUnstored live.old.plant.now live.new.plant.now }
     ensures still_stands { IsStanding live.new.plant.now }
     ensures same_reference { live.new.plant.ghost_name ≡ live.old.plant.ghost_name }
 {
@@ -59,6 +60,7 @@ fn put_bytes(live: &mut Live<'_>, tty: u32, bytes: &[u8]) -> Result<(), Panicked
     ensures stays { OnOk result (live.new.plant.now.refusal ≡ None) }
     ensures cause { OnErr result (live.new.plant.now.refusal ≡ Some refusal.Store) }
     ensures allowed { OnErr result (may_refuse live.old.plant.now ≡ true) }
+    ensures unstored { IsUnstored live.old.plant.now live.new.plant.now }
     ensures still_stands { IsStanding live.new.plant.now }
     ensures same_reference { live.new.plant.ghost_name ≡ live.old.plant.ghost_name }
 {
@@ -90,6 +92,7 @@ fn write_piece(
     ensures stays { OnOk result (live.new.plant.now.refusal ≡ None) }
     ensures cause { OnErr result (live.new.plant.now.refusal ≡ Some refusal.Store) }
     ensures allowed { OnErr result (may_refuse live.old.plant.now ≡ true) }
+    ensures unstored { IsUnstored live.old.plant.now live.new.plant.now }
     ensures still_stands { IsStanding live.new.plant.now }
     ensures same_reference { live.new.plant.ghost_name ≡ live.old.plant.ghost_name }
 {
@@ -119,6 +122,7 @@ pub(crate) fn carry_out(live: &mut Live<'_>, slot: u32, service: &Service) -> Re
     ensures stays { OnOk result (live.new.plant.now.refusal ≡ None) }
     ensures cause { OnErr result (live.new.plant.now.refusal ≡ Some refusal.Store) }
     ensures allowed { OnErr result (may_refuse live.old.plant.now ≡ true) }
+    ensures unstored { IsUnstored live.old.plant.now live.new.plant.now }
     ensures still_stands { IsStanding live.new.plant.now }
     ensures same_reference { live.new.plant.ghost_name ≡ live.old.plant.ghost_name }
 {

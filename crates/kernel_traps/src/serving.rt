@@ -6,9 +6,10 @@ ghost use Rattle.process_table.specs.Choosing.{IsWork};
 ghost use Rattle.process_table.specs.declared.choice.Choice.TheVariants as choice;
 ghost use Rattle.ow_plant.specs.State.{now_of};
 ghost use Rattle.intent_store.specs.Live.{records_held};
-ghost use Rattle.kernel_traps.specs.Due.{IsNextTurn, IsTrapNext, MayBeLeftOfTurn};
+ghost use Rattle.kernel_traps.specs.Broken.{IsLeftOfTrap, IsLeftOfTurn};
+ghost use Rattle.kernel_traps.specs.Due.{IsNextTurn, IsTrapNext};
 ghost use Rattle.kernel_traps.specs.Plants.{IsSound, unix_at};
-ghost use Rattle.kernel_traps.specs.Traps.{HasPassed, IsAllEnded, IsDue, IsNoPanicNext, IsPanicNext, IsTrapMade, MayBeLeftOfTrap};
+ghost use Rattle.kernel_traps.specs.Traps.{HasPassed, IsAllEnded, IsDue, IsNoPanicNext, IsPanicNext, IsTrapMade};
 ghost use Rattle.kernel_traps.specs.Turning.{AllHaveEnded, IsTurn};
 
 use crate::ended::next_choice;
@@ -95,7 +96,7 @@ pub fn serve_trap(plant: &mut Plant) -> Result<Turn, Panicked>
     requires budget { (plant.old.steps < plant.old.shape.budget) ⊎ AllHaveEnded plant.old }
     ensures ok { IfOk result (IsTurn plant.old plant.new) }
     ensures ended { AllHaveEnded plant.old → IsAllEnded result }
-    ensures err { OnErr result (MayBeLeftOfTurn plant.old plant.new) }
+    ensures err { OnErr result (IsLeftOfTurn plant.old plant.new) }
     ensures passed { IfOk result (HasPassed plant.old) }
     ensures allowed { OnErr result (IsPanicNext plant.old) }
 {
@@ -115,7 +116,7 @@ pub fn shutdown(plant: &mut Plant) -> Result<(), Panicked>
     requires sound { IsSound plant.old }
     requires traps { plant.old.traps < 2 ^ 32 - 2 }
     ensures ok { OnOk result (IsTrapMade plant.old plant.new (closed (unix_at plant.old)) 0) }
-    ensures err { OnErr result (MayBeLeftOfTrap plant.old (closing_of (unix_at plant.old)) plant.new) }
+    ensures err { OnErr result (IsLeftOfTrap plant.old (closing_of (unix_at plant.old)) plant.new) }
     ensures passed { OnOk result (IsNoPanicNext plant.old) }
     ensures allowed { OnErr result (IsPanicNext plant.old) }
 {

@@ -6,8 +6,9 @@ ghost use Rattle.record_layouts.specs.Patch.{IsPatch};
 ghost use Rattle.record_layouts.specs.Unix.Traps.{after_trap, steps_in};
 ghost use Rattle.syscalls.specs.Serving.{IsDoable, plan_of};
 ghost use Rattle.intent_store.specs.Live.{records_held};
+ghost use Rattle.kernel_traps.specs.Broken.{IsLeftFrom};
 ghost use Rattle.kernel_traps.specs.Plants.{IsHeldSound, IsSound, unix_at};
-ghost use Rattle.kernel_traps.specs.Traps.{IsDue, IsHad, IsNoPanicNext, IsPanicNext, IsTrapMade, IsWithin, MayBeLeftOfTrap, plan_for, served_items};
+ghost use Rattle.kernel_traps.specs.Traps.{IsDue, IsHad, IsNoPanicNext, IsPanicNext, IsTrapMade, IsWithin, plan_for, served_items};
 
 use crate::ending::end_trap;
 use intent_store::live_records;
@@ -93,7 +94,7 @@ pub(crate) fn make_trap(plant: &mut Plant, trap: Trap) -> Result<(), Panicked>
     requires within { IsWithin plant.old trap }
     requires traps { plant.old.traps < 2 ^ 32 - 2 }
     ensures ok { OnOk result (IsTrapMade plant.old plant.new (after_trap (unix_at plant.old) trap) (steps_in trap)) }
-    ensures err { OnErr result (MayBeLeftOfTrap plant.old trap plant.new) }
+    ensures left { OnErr result (IsLeftFrom (unix_at plant.old) plant.old trap plant.new) }
     ensures passed { OnOk result (IsNoPanicNext plant.old) }
     ensures allowed { OnErr result (IsPanicNext plant.old) }
 {

@@ -5,6 +5,7 @@ use Rattle.ow_plant.specs.State.{PlantState}
 use Rattle.tty_screen.specs.Drawing.{DrawsByte, IsCounted, StaysBeside}
 use Rattle.tty_screen.specs.Shown.{TerminalDecodes}
 use Rattle.intent_store.specs.Live.{held_of}
+use Rattle.intent_store.proofs.Unstored.{unstored_then}
 use Rattle.word_store.proofs.Outcomes.{at_err, on_err, on_ok}
 use Rattle.kernel_traps.specs.Putting.{IsPut}
 use Rattle.kernel_traps.proofs.Puts.{held_put, held_refused, put_counted, put_out}
@@ -50,3 +51,7 @@ returns-clause-err c =
     (λ is. inr (subst (λ (k : Held PlantState). IsPut h c.args.tty (c.args.byte ∷ []) [] k)
     (sym (ap (λ (s : PlantState). held_of s) is ∙ held_refused c.commit.new.self.plant.now)) counted))
     c.put.ensures.err
+
+pub returns-clause-unstored : goal.returns-clause-unstored
+returns-clause-unstored c =
+    unstored_then c.args.live.now.plant.now c.commit.new.self.plant.now c.put.new.self.plant.now c.commit.ensures.unstored c.put.ensures.unstored

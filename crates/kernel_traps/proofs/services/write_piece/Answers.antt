@@ -5,6 +5,7 @@ use Rattle.record_layouts.specs.declared.proc.ProcRec.{ProcRec}
 use Rattle.record_layouts.specs.Pages.{pages_of}
 use Rattle.syscalls.specs.Planned.{pages_if, pages_in}
 use Rattle.intent_store.specs.Live.{records_held}
+use Rattle.intent_store.proofs.Unstored.{unstored_then}
 use Rattle.kernel_traps.proofs.Decoding.{process_there, terminal_there}
 use Rattle.kernel_traps.proofs.services.write_piece.Goals as goal
 
@@ -47,3 +48,7 @@ returns-clause-err c =
     let pages : pages_in r (words_of c.args.live.now.plant.now.memory) c.args.slot ≡ pages_of r (words_of c.args.live.now.plant.now.memory) c.args.slot process =
     ap (pages_if r (words_of c.args.live.now.plant.now.memory) c.args.slot) there in
     rw pages (search (rules, bytes))
+
+pub returns-clause-unstored : goal.returns-clause-unstored
+returns-clause-unstored c =
+    unstored_then c.args.live.now.plant.now c.put_bytes.new.live.plant.now c.commit.new.self.plant.now c.put_bytes.ensures.unstored c.commit.ensures.unstored

@@ -1,5 +1,7 @@
 use Rattle.syscalls.specs.Serving.{plan_of}
-use Rattle.kernel_traps.proofs.TrapKinds.{has_begun, trap_begun, trap_done, trap_ends, trap_left, trap_served}
+use Rattle.word_store.proofs.Outcomes.{on_err}
+use Rattle.kernel_traps.proofs.LeftTurns.{left_from}
+use Rattle.kernel_traps.proofs.TrapKinds.{has_begun, trap_begun, trap_done, trap_ends, trap_refused, trap_served}
 use Rattle.kernel_traps.proofs.traps.make_trap.Goals as goal
 
 pub end_trap-requires-clause-trap : goal.end_trap-requires-clause-trap
@@ -47,8 +49,8 @@ returns-clause-ok c =
     c.slot_for-slot.ensures c.service_for-service.ensures.plan in
     trap_done c.end_trap.result s b c.end_trap.new.plant t slot c.service_for-service.result has c.requires.due.mode c.service_for-service.ensures.doable c.end_trap.ensures.ok c.end_trap.ensures.sound
 
-pub returns-clause-err : goal.returns-clause-err
-returns-clause-err c =
+pub returns-clause-left : goal.returns-clause-left
+returns-clause-left c =
     let s = c.args.plant.now in
     let b = c.enter.new.self in
     let t = c.args.trap in
@@ -57,4 +59,5 @@ returns-clause-err c =
     let has = has_begun s b t c.came.result c.pid.result c.unwrap_or.result slot plan c.enter.ensures c.came.ensures c.pid.ensures c.unwrap_or.ensures
     (record { sound = c.requires.sound; within = c.requires.within; most = c.fits_shape.ensures.few_steps; few = c.requires.traps })
     c.slot_for-slot.ensures c.service_for-service.ensures.plan in
-    trap_left c.end_trap.result s b c.end_trap.new.plant t slot plan has c.end_trap.ensures.err
+    on_err c.end_trap.result _ _ (left_from s c.end_trap.new.plant t has.may c.requires.due)
+    (trap_refused c.end_trap.result s b c.end_trap.new.plant t slot plan has c.end_trap.ensures.err c.end_trap.ensures.unstored c.end_trap.ensures.stands)

@@ -7,6 +7,7 @@ use Rattle.intent_store.specs.Blocks.{IsSeenAs, IsSeenSet}
 use Rattle.intent_store.specs.Live.{held_of, map_of}
 use Rattle.word_store.proofs.Outcomes.{on_ok, on_err, either_way}
 use Rattle.intent_store.proofs.Holding.{committed_as, committed_set, has_area, held_either}
+use Rattle.intent_store.proofs.Unstored.{unstored_held}
 use Rattle.intent_store.proofs.live.LiveWriter.commit.Goals as goal
 
 pub commit-requires-clause-area : goal.commit-requires-clause-area
@@ -49,3 +50,6 @@ returns-clause-still_stands c =
       | inl like ↦ held_either s t items c.requires.stands (inl (committed_as s t base is c.commit.ensures.rest c.commit.ensures.beside like))
       | inr set ↦ held_either s t items c.requires.stands (inr (committed_set s t base is c.commit.ensures.rest c.commit.ensures.beside items c.requires.stands.armed.few_frames c.requires.patch.sectors set))
     ]) c.commit.ensures.err)
+
+pub returns-clause-unstored : goal.returns-clause-unstored
+returns-clause-unstored c = unstored_held c.args.self.now.plant.now c.commit.new.store.plant.now c.commit.ensures.rest c.commit.ensures.unstored
