@@ -1,5 +1,5 @@
 -- Lemmas of the program.
 pub mod Tops
-pub mod Reports
+pub mod Agrees
 pub mod Worked
 pub mod Texts

@@ -16,7 +16,7 @@ use Rattle.ow_base.specs.declared.worlds.PanicRecord.{PanicRecord}
 use Rattle.ow_base.specs.declared.worlds.Ending.TheVariants as ending
 use Rattle.ow_plant.specs.State.{PlantState}
 use Rattle.kernel_traps.specs.Plants.{unix_at, IsSound}
-use Rattle.otherworld.proofs.Reports.{terminal0, terminal1, unix_steps, unix_traps}
+use Rattle.otherworld.proofs.Agrees.{terminal0, terminal1, unix_steps, unix_traps}
 use Rattle.otherworld.specs.Top.{PlantAgrees, IsRead, IsReported, IsNoWorld, Intends, status_of, unread_status, refusal_text, most_bytes}
 
 -- behind the last byte there is none

@@ -1,4 +1,3 @@
 -- The definitions that the program's contracts cite beside those of the crates below.
 pub mod Top
-pub mod Writing
 pub mod Rows

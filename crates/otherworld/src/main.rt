@@ -3,7 +3,6 @@
 #![tactic(auto)]
 
 mod laws;
-mod ow_report;
 mod rows;
 mod top;
 

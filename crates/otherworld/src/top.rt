@@ -7,13 +7,13 @@ ghost use Rattle.ow_base.specs.declared.worlds.Ending.{Ending};
 ghost use Rattle.ow_plant.specs.State.{IsReady};
 ghost use Rattle.otherworld.specs.Top.{unread_status, is_run as is_run_alone, refusal_text, bad_world_text, status_of as status_at, Intends, IsSaid, IsRead, IsReported, Answers};
 
-use crate::ow_report::write_report;
 use kernel_traps::worlds_can_boot;
 use ow_base::{Ending, Failed, ReadAllFault, Sink, Source, World, put_all, put_number, read_all};
 use ow_plant::Plant;
+use ow_report::write_report;
 use schedule_runner::run;
 use std::alloc::{AllocError, Global};
-use world_file::{Why, WorldFault, read_world};
+use world_file::{RunLog, Why, WorldFault, read_world};
 
 /// The most bytes that a world may have.
 const MOST_BYTES: usize = 1_048_576;
@@ -136,11 +136,16 @@ fn unread(fault: WorldFault) -> Status
     }
 }
 
-/// Reads a world and arms the plant for it, with no panics. A refusal leaves the plant as it was.
-fn load_world<S: Source>(alloc: Global, source: &mut S, plant: &mut Plant) -> Result<World, Status>
+/// Reads a world and arms the plant for it, with no panics, and makes a log for its run. A refusal leaves the plant as it
+/// was.
+fn load_world<S: Source>(
+    alloc: Global,
+    source: &mut S,
+    plant: &mut Plant,
+) -> Result<(World, RunLog), Status>
     requires { plant.old.armed ≡ false }
-    ensures read { IfOk result (IsRead (S.left source.old) (S.left source.new)) }
-    ensures ready { IfOk result (λ world. IsReady world.load.shape plant.new) }
+    ensures read { IfOk result (λ it. IsRead (S.left source.old) (S.left source.new) it.0) }
+    ensures ready { IfOk result (λ it. IsReady it.0.load.shape plant.new) }
     ensures none { IfOk result (λ _. plant.new.points ≡ []) }
     ensures refused { IfErr result (λ status. Intends true (S.left source.old) (S.left source.new) (Rose (S.faults source.old) (S.faults source.new)) plant.old plant.new status (refusal_text status)) }
     ensures never_falls { S.faults source.old ≤ S.faults source.new }
@@ -160,24 +165,29 @@ fn load_world<S: Source>(alloc: Global, source: &mut S, plant: &mut Plant) -> Re
         Ok(world) => world,
         Err(fault) => return Err(unread(fault)),
     };
+    let log = match RunLog::new(alloc, &world) {
+        Ok(log) => log,
+        Err(AllocError) => return Err(Status::Memory),
+    };
     match plant.arm(alloc, world.load.shape, &[], &[], &[]) {
-        Ok(()) => Ok(world),
+        Ok(()) => Ok((world, log)),
         Err(AllocError) => Err(Status::Memory),
     }
 }
 
 /// Runs a world on the plant that is armed for it, and writes the report.
-fn run_world<K: Sink>(world: &World, plant: &mut Plant, sink: &mut K) -> Status
+fn run_world<K: Sink>(world: &World, log: &RunLog, plant: &mut Plant, sink: &mut K) -> Status
     requires ready { IsReady world.now.load.shape plant.old }
     requires none { plant.old.points ≡ [] }
     requires value { (input : List ℕ) × IsWorld input world.now }
+    requires no_panics { world.now.panics ≡ [] }
     ensures reported { (ending : Ending) × (text : List ℕ) × IsReported world.now plant.new ending text
         × IsSaid text (status_at ending) (Rose (K.faults sink.old) (K.faults sink.new)) (K.written sink.old) (K.written sink.new) result }
     ensures never_falls { K.faults sink.old ≤ K.faults sink.new }
 {
     worlds_can_boot();
     let ending = run(plant, &world.load);
-    match write_report(sink, plant, ending) {
+    match write_report(sink, world, plant, log, ending) {
         Ok(()) => status_of(ending),
         Err(Failed) => Status::WriteFault,
     }
@@ -205,7 +215,7 @@ pub fn otherworld<S: Source, K: Sink>(
         return refuse(sink, Status::Usage);
     }
     match load_world(alloc, source, plant) {
-        Ok(world) => run_world(&world, plant, sink),
+        Ok((world, log)) => run_world(&world, &log, plant, sink),
         Err(status) => refuse(sink, status),
     }
 }

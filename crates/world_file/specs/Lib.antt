@@ -4,3 +4,4 @@ pub mod WorldFacts
 pub mod WorldReasons
 pub mod WorldRefusals
 pub mod WorldReading
+pub mod RunLog

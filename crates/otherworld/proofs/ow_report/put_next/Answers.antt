@@ -1,8 +1,0 @@
-use Rattle.std.proofs.Common.{[], ◌∷◌}
-use Rattle.ow_base.proofs.Writing.{then_writes}
-use Rattle.otherworld.specs.Writing.{token_text}
-use Rattle.otherworld.proofs.ow_report.put_next.Goals as goal
-
-pub returns-in-Ok-clause-writes : goal.returns-in-Ok-clause-writes
-returns-in-Ok-clause-writes g c =
-    then_writes c.put_token.result (32 ∷ []) (token_text c.args.token) _ _ _ c.in-Ok.ensures.writes c.put_token.ensures.writes

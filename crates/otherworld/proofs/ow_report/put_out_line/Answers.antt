@@ -1,5 +1,0 @@
-use Rattle.otherworld.proofs.Reports.{one_token}
-use Rattle.otherworld.proofs.ow_report.put_out_line.Goals as goal
-
-pub returns-clause-writes : goal.returns-clause-writes
-returns-clause-writes g c = let h = rw one_token at c.put_line.ensures.writes in h

@@ -1,5 +1,0 @@
-use Rattle.otherworld.proofs.Reports.{two_tokens}
-use Rattle.otherworld.proofs.ow_report.put_tape_line.Goals as goal
-
-pub returns-clause-writes : goal.returns-clause-writes
-returns-clause-writes g c = let h = rw (two_tokens, c.from.ensures) at c.put_line.ensures.writes in h

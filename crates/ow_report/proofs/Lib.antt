@@ -1,0 +1,3 @@
+-- Lemmas of the report.
+pub mod Reports
+pub mod Entries

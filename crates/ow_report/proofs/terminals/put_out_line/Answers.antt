@@ -1,0 +1,5 @@
+use Rattle.ow_report.proofs.Reports.{one_token}
+use Rattle.ow_report.proofs.terminals.put_out_line.Goals as goal
+
+pub returns-clause-writes : goal.returns-clause-writes
+returns-clause-writes g c = let h = rw one_token at c.put_line.ensures.writes in h

@@ -1,0 +1,5 @@
+use Rattle.ow_report.proofs.Reports.{two_tokens}
+use Rattle.ow_report.proofs.terminals.put_tape_line.Goals as goal
+
+pub returns-clause-writes : goal.returns-clause-writes
+returns-clause-writes g c = let h = rw (two_tokens, c.from.ensures) at c.put_line.ensures.writes in h
