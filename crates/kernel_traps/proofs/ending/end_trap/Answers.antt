@@ -6,7 +6,7 @@ use Rattle.syscalls.specs.Serving.{IsDoable, plan_of}
 use Rattle.syscalls.specs.declared.service.Service.{Service}
 use Rattle.syscalls.specs.declared.service.Service.TheVariants as service
 use Rattle.ow_plant.specs.State.{PlantState, leave_refused, left_trap}
-use Rattle.word_store.proofs.Outcomes.{at_err, on_err, on_ok}
+use Rattle.word_store.proofs.Outcomes.{on_err, on_ok}
 use Rattle.intent_store.specs.Live.{IsStanding, IsUnstored, held_of}
 use Rattle.kernel_traps.specs.Plants.{IsSound}
 use Rattle.kernel_traps.specs.Carrying.{HasRoomFor, IsCarriedOut}
@@ -48,10 +48,6 @@ returns-clause-sound c =
     (short _ _ _ c.args.service.now c.requires.doable) carried c.in_ok-carry_out.ensures.stays c.in_ok-carry_out.ensures.shut c.carry_out.ensures.still_stands in
     let ended : OnOk c.leave.result (c.leave.new.self ≡ left_trap done) = search rules in
     on_ok c.leave.result (c.leave.new.self ≡ left_trap done) (IsSound c.leave.new.self) (λ is. subst IsSound (sym is) sound) ended
-
-pub returns-in_err-carry_out-clause-unstored : goal.returns-in_err-carry_out-clause-unstored
-returns-in_err-carry_out-clause-unstored c =
-    at_err c.from_residual.result _ (subst (λ (s : PlantState). IsUnstored s c.carry_out.new.live.plant.now) c.new-live.ensures.plant c.carry_out.ensures.unstored)
 
 pub returns-clause-unstored : goal.returns-clause-unstored
 returns-clause-unstored c =
