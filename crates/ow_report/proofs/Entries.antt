@@ -1,5 +1,5 @@
 -- The entry of a trap is found, or passed, one entry of the history after the other.
-use Rattle.std.proofs.Common.{◌≡◌, ℕ, ◌+◌, ◌<◌, nat_eq, true, false, List, length, drop, get_or, Option, Some, sym, ◌∙◌}
+use Rattle.std.proofs.Common.{◌≡◌, ℕ, ◌+◌, ◌<◌, nat_eq, true, false, List, length, drop, get_or, Some, sym, ◌∙◌}
 use Rattle.ow_base.specs.declared.worlds.PanicRecord.{PanicRecord}
 use Rattle.record_layouts.specs.Unix.PanicReport.{entry_for}
 use Rattle.ow_report.proofs.Reports.{entry_more}

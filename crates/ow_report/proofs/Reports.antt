@@ -68,10 +68,16 @@ pub three_tokens : (key : List ℕ) (a b d : Token) → line_text key (a ∷ b �
 unfolding line_text
 three_tokens key a b d = simp append_assoc refl
 
+-- a token more behind a longer key
+token_first : (key : List ℕ) (a : Token) (others : List Token) → line_text key (a ∷ others) ≡ line_text (spaced key (token_text a)) others
+unfolding line_text
+token_first key a others = simp append_assoc refl
+
 pub five_tokens : (key : List ℕ) (a b d e f : Token) → line_text key (a ∷ b ∷ d ∷ e ∷ f ∷ [])
     ≡ line (spaced (spaced (spaced (spaced (spaced key (token_text a)) (token_text b)) (token_text d)) (token_text e)) (token_text f))
-unfolding line_text
-five_tokens key a b d e f = simp append_assoc refl
+five_tokens key a b d e f =
+    token_first key a (b ∷ d ∷ e ∷ f ∷ []) ∙ token_first (spaced key (token_text a)) b (d ∷ e ∷ f ∷ [])
+    ∙ three_tokens (spaced (spaced key (token_text a)) (token_text b)) d e f
 
 -- the words of a status
 pub exit_words : (e : Exit) → IsExit e → status_words (status_word e) ≡ spaced (exit_key e) (decimal (exit_number e))
@@ -277,7 +283,7 @@ state_same s w agrees =
     let tape1 : (w.terminals 1).tape ≡ s.tty1.tape = agrees.tapes 1 (omega arith) in
     let shown0 : shown_on (w.terminals 0) ≡ s.tty0.display = sym (agrees.shown 0 (omega arith)) in
     let shown1 : shown_on (w.terminals 1) ≡ s.tty1.display = sym (agrees.shown 1 (omega arith)) in
-    rw (exits, next, tape0, tape1, shown0, shown1) refl
+    rw (exits, next, shown0, shown1, tape0, tape1) refl
 
 -- the report of a run that left this plant, by its parts
 pub report_parts : (panics : List PanicLine) (told : List (List (ℕ × Fate))) (ending : Ending) (s : PlantState) (w : Unix) → PlantAgrees s w

@@ -32,7 +32,6 @@ fn put_panic_line<K: Sink>(sink: &mut K, entry: &PanicRecord) -> Result<(), Fail
 }
 
 /// Writes the lines of the stores at which resurrections were broken.
-#[tactic(auto, using(ow_base::proofs::Writing::front_at, ow_base::proofs::Writing::one_more))]
 fn put_broken<K: Sink>(sink: &mut K, stores: &[u32]) -> Result<(), Failed>
     ensures writes { Writes result (flat_map broken_line stores.now) (K.written sink.old) (K.written sink.new) }
     ensures failed { OnErr result (Rose (K.faults sink.old) (K.faults sink.new)) }
@@ -63,7 +62,6 @@ fn put_fate<K: Sink>(sink: &mut K, pid: u32, fate: Fate) -> Result<(), Failed>
 }
 
 /// Writes the lines of the fates that a panic brought.
-#[tactic(auto, using(ow_base::proofs::Writing::front_at, ow_base::proofs::Writing::one_more))]
 fn put_fates<K: Sink>(sink: &mut K, fates: &[(u32, Fate)]) -> Result<(), Failed>
     ensures writes { Writes result (flat_map fate_line fates.now) (K.written sink.old) (K.written sink.new) }
     ensures failed { OnErr result (Rose (K.faults sink.old) (K.faults sink.new)) }

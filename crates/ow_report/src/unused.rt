@@ -44,7 +44,6 @@ fn put_again<K: Sink>(sink: &mut K, trap: u32, store: u32) -> Result<(), Failed>
 }
 
 /// Writes the lines of those stores of the resurrections of one panic.
-#[tactic(auto, using(ow_base::proofs::Writing::front_at, ow_base::proofs::Writing::one_more))]
 fn put_agains<K: Sink>(sink: &mut K, trap: u32, stores: &[u32]) -> Result<(), Failed>
     ensures writes { Writes result (flat_map (unused_again trap) stores.now) (K.written sink.old) (K.written sink.new) }
     ensures failed { OnErr result (Rose (K.faults sink.old) (K.faults sink.new)) }

@@ -1,4 +1,4 @@
-use Rattle.std.proofs.Common.{◌≡◌, ◌≤◌, drop}
+use Rattle.std.proofs.Common.{◌≤◌, drop}
 use Rattle.record_layouts.specs.Unix.PanicReport.{panic_lines}
 use Rattle.ow_report.proofs.Reports.{PartWay}
 use Rattle.ow_report.proofs.panics.put_panics.Given as goal

@@ -4,13 +4,14 @@ use Rattle.record_layouts.specs.Unix.PanicReport.{unused_again}
 use Rattle.ow_report.specs.Writing.{unused_panic}
 use Rattle.ow_report.proofs.unused.put_unused_of.Goals as goal
 
-pub returns-in-None-in-Ok-clause-writes : goal.returns-in-None-in-Ok-clause-writes
-returns-in-None-in-Ok-clause-writes g c =
+pub returns-in-Ok-clause-writes : goal.returns-in-Ok-clause-writes
+returns-in-Ok-clause-writes g c =
     let panic = c.args.panic.now in
-    then_writes _ (unused_panic panic) (flat_map (unused_again panic.trap) panic.agains) _ _ _ c.in-Ok.ensures.writes
-    (rw c.items-agains.ensures at c.put_agains.ensures.writes)
+    rw c.in-None.is
+    (then_writes c.put_agains-in-Ok.result (unused_panic panic) (flat_map (unused_again panic.trap) panic.agains) _ _ _ c.in-Ok.ensures.writes
+    (rw c.items-agains.ensures at c.put_agains-in-Ok.ensures.writes))
 
-pub returns-in-None-in-Err-clause-writes : goal.returns-in-None-in-Err-clause-writes
-returns-in-None-in-Err-clause-writes g c =
+pub returns-in-Err-clause-writes : goal.returns-in-Err-clause-writes
+returns-in-Err-clause-writes g c =
     let panic = c.args.panic.now in
-    cut (unused_panic panic) (flat_map (unused_again panic.trap) panic.agains) _ _ c.in-Err.ensures.writes
+    rw c.in-None.is (cut (unused_panic panic) (flat_map (unused_again panic.trap) panic.agains) _ _ c.in-Err.ensures.writes)
