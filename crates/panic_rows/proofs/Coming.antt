@@ -21,7 +21,7 @@ use Rattle.record_layouts.specs.declared.fates.Fate.{Fate}
 use Rattle.record_layouts.specs.declared.traps.Trap.{Trap}
 use Rattle.record_layouts.specs.declared.traps.Trap.TheVariants as trap
 use Rattle.record_layouts.proofs.Turning.{closing_is, next_is, turn_is}
-use Rattle.panic_rows.proofs.Counting.{broken_counts, settled_alike, turn_counts}
+use Rattle.record_layouts.proofs.Counting.{broken_counts, settled_alike, turn_counts}
 
 -- a turn that is an instruction counts no trap
 by_step : (u : Unix) (pid count : ℕ) (p : Process) (s : Stepped Pages) → trap_of_step pid s ≡ None → (stepped u pid count p s).traps ≡ u.traps

@@ -1,5 +1,4 @@
 -- Lemmas on what broken traps count and leave and on whole runs, and the worked runs.
-pub mod Counting
 pub mod Putting
 pub mod OneRun
 pub mod Coming

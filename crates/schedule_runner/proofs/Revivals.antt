@@ -48,11 +48,11 @@ other_same A = refl
 other_same B = refl
 
 -- there are two terminals
-no_more_terminals : (i : Image) (n : ℕ) → (records_of_image i).terms (suc (suc n)) ≡ None
+pub no_more_terminals : (i : Image) (n : ℕ) → (records_of_image i).terms (suc (suc n)) ≡ None
 unfolding records_of records_in
 no_more_terminals i n = grind (arith, nat_tests)
 
-no_more_tapes : (s : PlantState) (n : ℕ) → tapes_of s (suc (suc n)) ≡ []
+pub no_more_tapes : (s : PlantState) (n : ℕ) → tapes_of s (suc (suc n)) ≡ []
 no_more_tapes s n =
     let not_zeroth : (suc (suc n) == 0) ≡ false = grind (arith, nat_tests) in
     let not_other : (suc (suc n) == 1) ≡ false = grind (arith, nat_tests) in

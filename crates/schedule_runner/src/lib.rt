@@ -5,6 +5,7 @@
 mod revival_laws;
 mod reviving;
 mod runner;
+mod serving;
 
 pub use revival_laws::{entered_panics_are_broken, revived_plants_are_of_abort};
 pub use reviving::revive;

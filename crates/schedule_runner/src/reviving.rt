@@ -1,5 +1,5 @@
 //! A revival: a kernel is built of what a panic left, and takes over.
-ghost use Rattle.std.specs.Prelude.{◌≡◌, None, true, IfOk, OnErr, OnOk, Some};
+ghost use Rattle.std.specs.Prelude.{◌≡◌, None, false, true, IfOk, OnErr, OnOk, Some};
 ghost use Rattle.std.specs.List.{list_any};
 ghost use Rattle.kernel_traps.specs.Plants.{IsSound, unix_at};
 ghost use Rattle.ow_plant.specs.Points.{is_in};
@@ -28,6 +28,7 @@ pub fn revive(plant: &mut Plant) -> Result<Revival, Panicked>
     ensures dead { words_beside plant.new.memory plant.old.live ≡ dead_words plant.old }
     ensures left0 { IsTapeLeft (dead_records plant.old) 0 plant.old.tty0.tape plant.new.tty0.tape }
     ensures left1 { IsTapeLeft (dead_records plant.old) 1 plant.old.tty1.tape plant.new.tty1.tape }
+    ensures runs { OnOk result (plant.new.reviving ≡ false) }
     ensures reviving { OnErr result (plant.new.reviving ≡ true) }
     ensures cause { OnErr result (plant.new.refusal ≡ Some Store) }
     ensures allowed { OnErr result (list_any (is_in plant.old.traps) plant.old.points ≡ true) }

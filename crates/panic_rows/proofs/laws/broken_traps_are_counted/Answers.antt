@@ -1,5 +1,5 @@
 use Rattle.record_layouts.specs.Unix.Choice.{no_keys}
-use Rattle.panic_rows.proofs.Counting.{broken_counts, done_is}
+use Rattle.record_layouts.proofs.Counting.{broken_counts, done_is}
 use Rattle.panic_rows.proofs.laws.broken_traps_are_counted.Goals as goal
 
 pub returns-clause-counts : goal.returns-clause-counts

@@ -1,10 +1,8 @@
-use Rattle.std.proofs.Common.{◌-◌}
-use Rattle.schedule_runner.proofs.Running.{HasCome}
+use Rattle.schedule_runner.specs.Progress.{HasCome, to_come}
 use Rattle.schedule_runner.proofs.runner.run.Given as goal
 
--- however the run goes on from here, it is a run from the start; no turn has two traps
-abbrev pub invariant-loop-plant : goal.invariant-loop-plant
-invariant-loop-plant l = HasCome l.load l.fn.plant l.plant
+abbrev pub invariant-loop-ending : goal.invariant-loop-ending
+invariant-loop-ending l = HasCome l.load l.fn.plant.points l.plant l.log
 
-abbrev pub decreases-loop-plant : goal.decreases-loop-plant
-decreases-loop-plant l = l.load.shape.budget - l.plant.steps
+abbrev pub decreases-loop-ending : goal.decreases-loop-ending
+decreases-loop-ending l = to_come l.plant

@@ -1,26 +1,51 @@
--- What traps count.
-use Rattle.std.proofs.Common.{◌≡◌, ◌∙◌, ◌+◌, ◌-◌, ◌%◌, ◌==◌, ℕ, nat_lt, Bool, true, false, List, Option, Some, None, inl, inr, refl, sym, ap, subst}
+-- What traps count, and what they put on tapes.
+use Rattle.std.proofs.Common.{◌≡◌, ◌∙◌, ◌+◌, ◌-◌, ◌%◌, ◌==◌, ℕ, nat_lt, Bool, true, false, List, [], ◌++◌, Option, Some, None, inl, inr, refl, sym, ap, subst, arith}
 use Rattle.std.specs.Prelude.{if◌then◌else◌, not, slice_index}
 use Rattle.std.proofs.lemmas.Bool.{cases_Bool}
+use Rattle.std.proofs.lemmas.Bool.Decides.{nat_tests}
+use Rattle.std.proofs.lemmas.List.{append-nil}
 use Rattle.ow_base.specs.Words.{minus}
 use Rattle.ow_base.specs.UserStep.{Stepped, Next, Call, Faulted}
 use Rattle.ow_base.specs.Pages.{Pages, is_readable, bytes_at}
 use Rattle.ow_base.specs.declared.machine.Shape.{Shape}
-use Rattle.record_layouts.specs.Unix.State.{Unix, Process, Position, AtKernel, AtUser, AtPanic, CallState, Out, In, Object, OnFile, OnTty, Description}
-use Rattle.record_layouts.specs.Unix.Choice.{Keys, chosen, deliverable, settled, settled_at, settled_on, settled_to, returned_as}
+use Rattle.record_layouts.specs.Unix.State.{Unix, Process, Terminal, Position, AtKernel, AtUser, AtPanic, CallState, Out, In, Object, OnFile, OnTty, Description}
+use Rattle.record_layouts.specs.Unix.Choice.{Keys, no_keys, chosen, deliverable, settled, settled_at, settled_on, settled_to, returned_as}
 use Rattle.record_layouts.specs.Unix.Calls.{argument, call_number, trapped, answered, stays_in, ended_as, description_of, tty_piece, tty_write, written_to, written_on, write_on, write_through, write_entry, exit_entry, getpid_entry, yield_entry, called, call_entered, piece_on, continued, piece_by, piece_of}
 use Rattle.record_layouts.specs.Unix.Signals.{signalled, signalled_by}
-use Rattle.record_layouts.specs.Unix.Turn.{step_of, idled}
-use Rattle.record_layouts.specs.Unix.Traps.{pid_of, trap_of_step, trap_of_user, signal_or_piece_of, trap_if_live, trap_or_idle, trap_at, trap_of_turn, after_trap, steps_in}
+use Rattle.record_layouts.specs.Unix.Turn.{closed, idled, step_of, stepped, turn}
+use Rattle.record_layouts.specs.Unix.Traps.{pid_of, trap_of_step, trap_of_user, signal_or_piece_of, trap_if_live, trap_or_idle, trap_at, trap_of_turn, after_trap, instructed, instructed_by, steps_in, turned_by}
 use Rattle.record_layouts.specs.Unix.Broken.{IsBroken, IsBrokenFrom, IsUndone, IsDone, IsPartlyPut, begun_from, done_of, last_after, partly_put, undone_of}
 use Rattle.record_layouts.specs.declared.traps.Trap.{Trap}
 use Rattle.record_layouts.specs.declared.traps.Trap.TheVariants as trap
+use Rattle.record_layouts.proofs.Turning.{turn_is}
 
--- two states count the same
+-- each tape of the one is a front of that of the other
+abbrev pub HasTapesOf : (u w : Unix) → Type 0
+HasTapesOf u w = (tty : ℕ) → (more : List ℕ) × ((w.terminals tty).tape ≡ (u.terminals tty).tape ++ more)
+
+as_they_are : (u : Unix) → HasTapesOf u u
+as_they_are u tty = ([], sym (append-nil (u.terminals tty).tape))
+
+pub same_tapes : (u w : Unix) → w.terminals ≡ u.terminals → HasTapesOf u w
+same_tapes u w same tty = ([], ap (λ (terminals : ℕ → Terminal). (terminals tty).tape) same ∙ sym (append-nil (u.terminals tty).tape))
+
+put_tapes : (u : Unix) (tty : ℕ) (bytes : List ℕ) → HasTapesOf u (written_on u tty bytes)
+put_tapes u tty bytes one = elim (cases_Bool (one == tty)) [
+  | inl here ↦
+      let same : one ≡ tty = grind (arith, nat_tests) in
+      (bytes, rw here (ap (λ (n : ℕ). (u.terminals n).tape ++ bytes) (sym same)))
+  | inr other ↦ ([], rw other (sym (append-nil (u.terminals one).tape)))
+]
+
+-- two states count the same, and the tapes of the one are fronts of those of the other
 record AreAlike (u w : Unix) : Type 0 where
   steps : w.steps ≡ u.steps
   traps : w.traps ≡ u.traps
   last : w.last_pid ≡ u.last_pid
+  tapes : HasTapesOf u w
+
+itself : (u : Unix) → AreAlike u u
+itself u = record { steps = refl; traps = refl; last = refl; tapes = as_they_are u }
 
 if_alike : (u x y : Unix) (test : Bool) → AreAlike u x → AreAlike u y → AreAlike u (if test then x else y)
 if_alike u x y true a b = a
@@ -28,17 +53,17 @@ if_alike u x y false a b = b
 
 answered_alike : (u : Unix) (pid : ℕ) (p : Process) (answer : ℕ) → AreAlike u (answered u pid p answer)
 unfolding answered
-answered_alike u pid p answer = record { steps = refl; traps = refl; last = refl }
+answered_alike u pid p answer = record { steps = refl; traps = refl; last = refl; tapes = as_they_are u }
 
 ended_alike : (u : Unix) (pid : ℕ) (p : Process) (status : ℕ) → AreAlike u (ended_as u pid p status)
 unfolding ended_as
-ended_alike u pid p status = record { steps = refl; traps = refl; last = refl }
+ended_alike u pid p status = record { steps = refl; traps = refl; last = refl; tapes = as_they_are u }
 
 written_alike : (u : Unix) (tty : ℕ) (bytes : List ℕ) (pid : ℕ) (p : Process) (count done : ℕ) → AreAlike u (written_to (written_on u tty bytes) pid p count done)
 unfolding answered stays_in
 written_alike u tty bytes pid p count done = elim (cases_Bool (done == count)) [
-  | inl all ↦ rw all (record { steps = refl; traps = refl; last = refl })
-  | inr some ↦ rw some (record { steps = refl; traps = refl; last = refl })
+  | inl all ↦ rw all (record { steps = refl; traps = refl; last = refl; tapes = put_tapes u tty bytes })
+  | inr some ↦ rw some (record { steps = refl; traps = refl; last = refl; tapes = put_tapes u tty bytes })
 ]
 
 write_alike : (u : Unix) (pid : ℕ) (p : Process) (done : ℕ) (object : Object) → AreAlike u (write_on u pid p done object)
@@ -47,7 +72,7 @@ write_alike u pid p done (OnTty tty) = elim (cases_Bool (is_readable p.pages (ar
   | inl able ↦ rw able (written_alike u tty (bytes_at p.pages (argument p 1 + done) (tty_piece (argument p 2) done)) pid p (argument p 2) (done + tty_piece (argument p 2) done))
   | inr not_so ↦ rw not_so (answered_alike u pid p (if done == 0 then minus 14 else done))
 ]
-write_alike u pid p done (OnFile file) = record { steps = refl; traps = refl; last = refl }
+write_alike u pid p done (OnFile file) = itself u
 
 through_alike : (u : Unix) (pid : ℕ) (p : Process) (d : Option Description) → AreAlike u (write_through u pid p d)
 through_alike u pid p None = answered_alike u pid p (minus 9)
@@ -58,7 +83,7 @@ through_alike u pid p (Some d) =
 
 yield_alike : (u : Unix) (pid : ℕ) (p : Process) → AreAlike u (yield_entry u pid p)
 unfolding yield_entry
-yield_alike u pid p = record { steps = refl; traps = refl; last = refl }
+yield_alike u pid p = record { steps = refl; traps = refl; last = refl; tapes = as_they_are u }
 
 called_alike : (u : Unix) (pid : ℕ) (p : Process) (number : ℕ) → AreAlike u (called u pid p number)
 unfolding called exit_entry write_entry getpid_entry
@@ -71,11 +96,12 @@ called_alike u pid p number =
     (if_alike u (getpid_entry u pid p) rest3 (number == 7) (answered_alike u pid p pid)
     (if_alike u (yield_entry u pid p) (answered u pid p (minus 38)) (number == 18) (yield_alike u pid p) (answered_alike u pid p (minus 38)))))
 
--- a state counts a trap more
+-- a state counts a trap more, which may have put bytes on the tapes
 pub record Counts (t : Trap) (u w : Unix) : Type 0 where
   pub steps : w.steps ≡ u.steps + steps_in t
   pub traps : w.traps ≡ u.traps + 1
   pub last : w.last_pid ≡ last_after (pid_of t) u.last_pid
+  pub tapes : HasTapesOf u w
 
 -- by what a trap of a process counts at first
 from_trapped : (t : Trap) (u w : Unix) (pid : ℕ) → pid_of t ≡ Some pid → u.steps + steps_in t ≡ u.steps + 1 → AreAlike (trapped u pid) w → Counts t u w
@@ -84,6 +110,7 @@ from_trapped t u w pid is step alike = record {
   steps = alike.steps ∙ sym step;
   traps = alike.traps;
   last = alike.last ∙ ap (λ (o : Option ℕ). last_after o u.last_pid) (sym is);
+  tapes = alike.tapes;
 }
 
 of_entry : (u : Unix) (pid : ℕ) (p : Process) → u.processes pid ≡ Some p → Counts (trap.Entry pid) u (after_trap u (trap.Entry pid))
@@ -96,19 +123,19 @@ of_fault u pid cause p live = rw live (from_trapped (trap.Fault pid cause) u (en
 
 of_slice : (u : Unix) (pid : ℕ) → Counts (trap.Slice pid) u (after_trap u (trap.Slice pid))
 unfolding after_trap trapped
-of_slice u pid = record { steps = refl; traps = refl; last = refl }
+of_slice u pid = record { steps = refl; traps = refl; last = refl; tapes = as_they_are u }
 
 of_idle : (u : Unix) → Counts trap.Idle u (after_trap u trap.Idle)
 unfolding after_trap idled
-of_idle u = record { steps = refl; traps = refl; last = refl }
+of_idle u = record { steps = refl; traps = refl; last = refl; tapes = as_they_are u }
 
 signalled_alike : (v : Unix) (pid : ℕ) (p : Process) (signal handler : ℕ) → AreAlike v (signalled_by v pid p signal handler)
 unfolding signalled_by
 signalled_alike v pid p signal handler = elim (cases_Bool (handler == 0)) [
   | inl none ↦ rw none (ended_alike v pid p (0x100 + signal))
   | inr some ↦ rw some (elim (cases_Bool (handler == 1)) [
-    | inl drops ↦ rw drops (record { steps = refl; traps = refl; last = refl })
-    | inr runs ↦ rw runs (record { steps = refl; traps = refl; last = refl })
+    | inl drops ↦ rw drops (record { steps = refl; traps = refl; last = refl; tapes = as_they_are v })
+    | inr runs ↦ rw runs (record { steps = refl; traps = refl; last = refl; tapes = as_they_are v })
   ])
 ]
 
@@ -121,37 +148,43 @@ unfolding continued
 piece_alike u pid p number done Out is = absurd (cc is)
 piece_alike u pid p number done (In n d) is =
     let v = trapped u pid in
-    if_alike v (piece_on v pid p d (description_of v p (argument p 0))) v (n == 2) (on (description_of v p (argument p 0))) (record { steps = refl; traps = refl; last = refl }) where
+    if_alike v (piece_on v pid p d (description_of v p (argument p 0))) v (n == 2) (on (description_of v p (argument p 0))) (itself v) where
       on : (o : Option Description) → AreAlike (trapped u pid) (piece_on (trapped u pid) pid p d o)
       on (Some o) = write_alike (trapped u pid) pid p d o.object
-      on None = record { steps = refl; traps = refl; last = refl }
+      on None = itself (trapped u pid)
 
 of_piece : (u : Unix) (pid number done : ℕ) (p : Process) → u.processes pid ≡ Some p → p.call ≡ In number done → Counts (trap.Piece pid) u (after_trap u (trap.Piece pid))
 unfolding after_trap piece_of
 of_piece u pid number done p live call = rw live (from_trapped (trap.Piece pid) u (piece_of u pid p) pid refl refl (piece_alike u pid p number done p.call call))
 
--- settling counts nothing
-returned_alike : (u : Unix) (pid : ℕ) (signal : Option ℕ) (call : CallState) → ((returned_as u pid signal call).steps ≡ u.steps) × ((returned_as u pid signal call).traps ≡ u.traps)
-returned_alike u pid (Some signal) call = (refl, refl)
-returned_alike u pid None Out = (refl, refl)
-returned_alike u pid None (In number done) = (refl, refl)
+-- settling counts nothing, and puts nothing on tapes
+abbrev AreCountedSame : (u w : Unix) → Type 0
+AreCountedSame u w = (w.steps ≡ u.steps) × (w.traps ≡ u.traps) × (w.terminals ≡ u.terminals)
 
-live_alike : (u : Unix) (pid : ℕ) (o : Option Process) → ((settled_to u pid o).steps ≡ u.steps) × ((settled_to u pid o).traps ≡ u.traps)
+returned_alike : (u : Unix) (pid : ℕ) (signal : Option ℕ) (call : CallState) → AreCountedSame u (returned_as u pid signal call)
+returned_alike u pid (Some signal) call = (refl, refl, refl)
+returned_alike u pid None Out = (refl, refl, refl)
+returned_alike u pid None (In number done) = (refl, refl, refl)
+
+live_alike : (u : Unix) (pid : ℕ) (o : Option Process) → AreCountedSame u (settled_to u pid o)
 live_alike u pid (Some p) = returned_alike u pid (deliverable p) p.call
-live_alike u pid None = (refl, refl)
+live_alike u pid None = (refl, refl, refl)
 
-on_alike : (u : Unix) (o : Option ℕ) → ((settled_on u o).steps ≡ u.steps) × ((settled_on u o).traps ≡ u.traps)
+on_alike : (u : Unix) (o : Option ℕ) → AreCountedSame u (settled_on u o)
 on_alike u (Some pid) = live_alike u pid (u.processes pid)
-on_alike u None = (refl, refl)
+on_alike u None = (refl, refl, refl)
 
-at_alike : (keys : Keys) (u : Unix) (position : Position) → ((settled_at keys u position).steps ≡ u.steps) × ((settled_at keys u position).traps ≡ u.traps)
+at_alike : (keys : Keys) (u : Unix) (position : Position) → AreCountedSame u (settled_at keys u position)
 at_alike keys u AtKernel = on_alike u (chosen keys u)
-at_alike keys u (AtUser pid count) = (refl, refl)
-at_alike keys u (AtPanic caller) = (refl, refl)
+at_alike keys u (AtUser pid count) = (refl, refl, refl)
+at_alike keys u (AtPanic caller) = (refl, refl, refl)
+
+all_alike : (keys : Keys) (u : Unix) → AreCountedSame u (settled keys u)
+unfolding settled
+all_alike keys u = at_alike keys u u.position
 
 pub settled_alike : (keys : Keys) (u : Unix) → ((settled keys u).steps ≡ u.steps) × ((settled keys u).traps ≡ u.traps)
-unfolding settled
-settled_alike keys u = at_alike keys u u.position
+settled_alike keys u = let same = all_alike keys u in (same.0, same.1)
 
 before_alike : (keys : Keys) (u : Unix) (t : Trap) → ((begun_from keys u t).steps ≡ u.steps) × ((begun_from keys u t).traps ≡ u.traps)
 before_alike keys u (trap.Entry pid) = settled_alike keys u
@@ -246,3 +279,63 @@ pub done_is : (keys : Keys) (shape : Shape) (u : Unix) (t : Trap) → trap_of_tu
     → done_of t (settled keys u) ≡ record (after_trap (settled keys u) t) { position = AtPanic 0 }
 unfolding done_of
 done_is keys shape u t is = let counts = turn_counts keys shape u t is in rw (counts.steps, counts.traps, counts.last) refl
+
+-- a turn that is an instruction counts no trap
+made_alike : (u : Unix) (pid count : ℕ) (p : Process) (s : Stepped Pages) → trap_of_step pid s ≡ None
+    → ((stepped u pid count p s).traps ≡ u.traps) × ((stepped u pid count p s).terminals ≡ u.terminals)
+unfolding stepped
+made_alike u pid count p (Next regs pc pages) none = (refl, refl)
+made_alike u pid count p Call none = absurd (cc none)
+made_alike u pid count p (Faulted fault) none = absurd (cc none)
+
+by_process : (quantum : ℕ) (u : Unix) (pid count : ℕ) (o : Option Process) → trap_of_user quantum pid count o ≡ None
+    → ((instructed_by u pid count o).traps ≡ u.traps) × ((instructed_by u pid count o).terminals ≡ u.terminals)
+by_process quantum u pid count (Some p) none = elim (cases_Bool (nat_lt count quantum)) [
+  | inl within ↦ made_alike u pid count p (step_of p) (rw within at none)
+  | inr over ↦ let some : Some (trap.Slice pid) ≡ None = rw over at none in absurd (cc some)
+]
+by_process quantum u pid count None none = (refl, refl)
+
+by_position : (keys : Keys) (quantum : ℕ) (u : Unix) (position : Position) → trap_at keys quantum u position ≡ None
+    → ((instructed u position).traps ≡ u.traps) × ((instructed u position).terminals ≡ u.terminals)
+unfolding trap_at instructed
+by_position keys quantum u AtKernel none = (refl, refl)
+by_position keys quantum u (AtUser pid count) none = by_process quantum u pid count (u.processes pid) none
+by_position keys quantum u (AtPanic caller) none = (refl, refl)
+
+-- after a turn so many traps more are counted, and the tapes of before are fronts of those that there are
+abbrev pub traps_in : Option Trap → ℕ
+traps_in (Some t) = 1
+traps_in None = 0
+
+pub record IsTurnedOn (count : ℕ) (u w : Unix) : Type 0 where
+  pub traps : w.traps ≡ u.traps + count
+  pub tapes : HasTapesOf u w
+
+by_trap : (shape : Shape) (u : Unix) (o : Option Trap) → trap_of_turn no_keys shape u ≡ o → IsTurnedOn (traps_in o) u (turned_by (settled no_keys u) o)
+unfolding trap_of_turn
+by_trap shape u (Some t) is =
+    let counts = turn_counts no_keys shape u t is in
+    let same = all_alike no_keys u in
+    record {
+      traps = counts.traps ∙ ap (λ (n : ℕ). n + 1) same.1;
+      tapes = λ tty. (
+        (counts.tapes tty).0,
+        (counts.tapes tty).1 ∙ ap (λ (terminals : ℕ → Terminal). (terminals tty).tape ++ (counts.tapes tty).0) same.2,
+      );
+    }
+by_trap shape u None none =
+    let s = settled no_keys u in
+    let same = all_alike no_keys u in
+    let made = by_position no_keys shape.quantum s s.position none in
+    record {
+      traps = made.0 ∙ same.1 ∙ omega arith;
+      tapes = same_tapes u (instructed s s.position) (made.1 ∙ same.2);
+    }
+
+pub turned_on : (shape : Shape) (u : Unix) → IsTurnedOn (traps_in (trap_of_turn no_keys shape u)) u (turn shape u)
+turned_on shape u = subst (IsTurnedOn (traps_in (trap_of_turn no_keys shape u)) u) (sym (turn_is shape u)) (by_trap shape u (trap_of_turn no_keys shape u) refl)
+
+pub closed_on : (u : Unix) → HasTapesOf u (closed u)
+unfolding closed
+closed_on u = same_tapes u (closed u) refl
