@@ -43,7 +43,9 @@ rising_too (p ∷ ps) pairs =
 
 pub armed_fresh : (points : List Point) → ArePoints points → AreFresh (points_of points)
 armed_fresh points are = record {
-  few = omega (arith, are.few, length-map points (λ (q : Point). record { trap = q.trap; store = q.store; entered = false }));
+  few =
+      let long : length (points_of points) ≡ length points = length-map points (λ (q : Point). record { trap = q.trap; store = q.store; entered = false }) in
+      omega (arith, are.few, long);
   from_one = All-map (λ (q : PanicPoint). 1 ≤ q.trap) (λ (q : Point). record { trap = q.trap; store = q.store; entered = false }) points are.from_one;
   rising = rising_too points are.rising;
   none_entered = All-map (λ (q : PanicPoint). q.entered ≡ false) (λ (q : Point). record { trap = q.trap; store = q.store; entered = false }) points (λ k q within. refl);
