@@ -21,13 +21,14 @@ unfolding AreInOrder
 from_rest least [] real above pairs none = tt
 from_rest least (p ∷ ps) real above pairs none =
     let from : least ≤ p.trap = above 0 p (omega arith) in
-    let ahead : nat_le p.trap 0 ≡ false = grind (arith, nat_tests, from, real) in
-    (from,
-    none 0 p (omega arith) ∙ sym ahead,
-    from_rest (p.trap + 1) ps (omega arith)
-    (λ k q within. let below : p.trap < _ = pairs 0 (suc k) q (omega arith) (omega (arith, within)) in omega (arith, below))
-    (λ i j d low high. pairs (suc i) (suc j) d (omega (arith, low)) (omega (arith, high)))
-    (λ k q within. none (suc k) q (omega (arith, within))))
+    let ahead : nat_le p.trap 0 ≡ false = grind (arith, nat_tests, from, real) in (
+      from,
+      none 0 p (omega arith) ∙ sym ahead,
+      from_rest (p.trap + 1) ps (omega arith)
+          (λ k q within. let below : p.trap < _ = pairs 0 (suc k) q (omega arith) (omega (arith, within)) in omega (arith, below))
+          (λ i j d low high. pairs (suc i) (suc j) d (omega (arith, low)) (omega (arith, high)))
+          (λ k q within. none (suc k) q (omega (arith, within))),
+    )
 
 pub fresh_in_order : (points : List PanicPoint) → AreFresh points → AreInOrder 1 0 points
 fresh_in_order points fresh = from_rest 1 points (omega arith) fresh.from_one fresh.rising fresh.none_entered
