@@ -40,9 +40,10 @@ grown s t sound after has tty =
     ((has tty).0, sym (tapes_told t after tty) ∙ (has tty).1 ∙ ap (λ (tape : List ℕ). tape ++ (has tty).0) (tapes_told s sound tty))
 
 pub front_then : (a b c : PlantState) → AreFronts a b → AreFronts b c → AreFronts a c
-front_then a b c first next tty =
-    ((first tty).0 ++ (next tty).0,
-    (next tty).1 ∙ (ap (λ (tape : List ℕ). tape ++ (next tty).0) (first tty).1 ∙ append_assoc (tapes_of a tty) (first tty).0 (next tty).0))
+front_then a b c first next tty = (
+  (first tty).0 ++ (next tty).0,
+  (next tty).1 ∙ (ap (λ (tape : List ℕ). tape ++ (next tty).0) (first tty).1 ∙ append_assoc (tapes_of a tty) (first tty).0 (next tty).0),
+)
 
 pub same_front : (a b : PlantState) → tapes_of b ≡ tapes_of a → AreFronts a b
 same_front a b same tty = ([], ap (λ (tapes : ℕ → List ℕ). tapes tty) same ∙ sym (append-nil (tapes_of a tty)))

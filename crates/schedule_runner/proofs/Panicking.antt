@@ -182,6 +182,7 @@ module _ (load : Load) (points : List PanicPoint) (s : PlantState) (log : RunFat
       where
         counted : (unix_at s).steps + steps_in t ≡ left.steps
         counted = ap (λ (n : ℕ). n + steps_in t) (steps_at s) ∙ sym is.steps
+
         numbered : (unix_at s).traps + 1 ≡ left.traps
         numbered = ap (λ (n : ℕ). n + 1) (traps_at s) ∙ sym is.traps
 

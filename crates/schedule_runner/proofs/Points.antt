@@ -3,8 +3,12 @@ use Rattle.std.proofs.Common.{◌≡◌, ℕ, zero, suc, ◌+◌, ◌<◌, ◌�
 use Rattle.std.specs.List.{AllPairs, list_any}
 use Rattle.std.proofs.lemmas.Bool.{cases_Bool}
 use Rattle.std.proofs.lemmas.Bool.Decides.{nat_tests}
+use Rattle.std.proofs.lemmas.List.{length-map}
+use Rattle.std.proofs.lemmas.List.Elements.{All-map}
+use Rattle.std.proofs.lemmas.List.Kept.{AllPairs-cons}
 use Rattle.ow_base.specs.declared.worlds.PanicLine.{PanicLine}
-use Rattle.ow_plant.specs.Points.{coming, entered_by, is_in, listed_for, is_ahead, is_at, is_missed}
+use Rattle.ow_base.specs.declared.worlds.Point.{Point}
+use Rattle.ow_plant.specs.Points.{ArePoints, coming, entered_by, is_in, listed_for, is_ahead, is_at, is_missed, points_of}
 use Rattle.ow_plant.specs.declared.points.PanicPoint.{PanicPoint}
 use Rattle.record_layouts.specs.Unix.Panics.{line_for}
 use Rattle.schedule_runner.specs.Histories.{AreFresh, line_of, lines_of}
@@ -17,16 +21,36 @@ unfolding AreInOrder
 from_rest least [] real above pairs none = tt
 from_rest least (p ∷ ps) real above pairs none =
     let from : least ≤ p.trap = above 0 p (omega arith) in
-    let ahead : nat_le p.trap 0 ≡ false = grind (arith, nat_tests, from, real) in
-    (from,
-    none 0 p (omega arith) ∙ sym ahead,
-    from_rest (p.trap + 1) ps (omega arith)
-    (λ k q within. let below : p.trap < _ = pairs 0 (suc k) q (omega arith) (omega (arith, within)) in omega (arith, below))
-    (λ i j d low high. pairs (suc i) (suc j) d (omega (arith, low)) (omega (arith, high)))
-    (λ k q within. none (suc k) q (omega (arith, within))))
+    let ahead : nat_le p.trap 0 ≡ false = grind (arith, nat_tests, from, real) in (
+      from,
+      none 0 p (omega arith) ∙ sym ahead,
+      from_rest (p.trap + 1) ps (omega arith)
+          (λ k q within. let below : p.trap < _ = pairs 0 (suc k) q (omega arith) (omega (arith, within)) in omega (arith, below))
+          (λ i j d low high. pairs (suc i) (suc j) d (omega (arith, low)) (omega (arith, high)))
+          (λ k q within. none (suc k) q (omega (arith, within))),
+    )
 
 pub fresh_in_order : (points : List PanicPoint) → AreFresh points → AreInOrder 1 0 points
 fresh_in_order points fresh = from_rest 1 points (omega arith) fresh.from_one fresh.rising fresh.none_entered
+
+-- and so are those with which a plant is armed
+rising_too : (points : List Point) → AllPairs (λ (a b : Point). a.trap < b.trap) points → AllPairs (λ (a b : PanicPoint). a.trap < b.trap) (points_of points)
+rising_too [] pairs = λ i j d low high. absurd (omega (arith, high))
+rising_too (p ∷ ps) pairs =
+    AllPairs-cons (λ (a b : PanicPoint). a.trap < b.trap) (record { trap = p.trap; store = p.store; entered = false }) (points_of ps)
+    (All-map (λ (q : PanicPoint). p.trap < q.trap) (λ (q : Point). record { trap = q.trap; store = q.store; entered = false }) ps
+    (λ k q within. pairs 0 (suc k) q (omega arith) (omega (arith, within))))
+    (rising_too ps (λ i j d low high. pairs (suc i) (suc j) d (omega (arith, low)) (omega (arith, high))))
+
+pub armed_fresh : (points : List Point) → ArePoints points → AreFresh (points_of points)
+armed_fresh points are = record {
+  few =
+      let long : length (points_of points) ≡ length points = length-map points (λ (q : Point). record { trap = q.trap; store = q.store; entered = false }) in
+      omega (arith, are.few, long);
+  from_one = All-map (λ (q : PanicPoint). 1 ≤ q.trap) (λ (q : Point). record { trap = q.trap; store = q.store; entered = false }) points are.from_one;
+  rising = rising_too points are.rising;
+  none_entered = All-map (λ (q : PanicPoint). q.entered ≡ false) (λ (q : Point). record { trap = q.trap; store = q.store; entered = false }) points (λ k q within. refl);
+}
 
 -- they stay so once a trap is over that had none of them
 pub passed_in_order : (least over : ℕ) (points : List PanicPoint) → AreInOrder least over points → list_any (is_in (over + 1)) points ≡ false

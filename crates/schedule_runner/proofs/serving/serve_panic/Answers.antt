@@ -12,9 +12,10 @@ use Rattle.schedule_runner.specs.Revivals.{IsBroken, dead_records}
 use Rattle.schedule_runner.proofs.serving.serve_panic.Goals as goal
 
 pub revive-requires-clause-broken : goal.revive-requires-clause-broken
-revive-requires-clause-broken c =
-    (told_by (handed_over c.args.plant.now),
-    entered_broken c.args.plant.now c.panic_entry.new.self c.panic_entry.ensures c.requires.armed c.requires.budget c.requires.sound)
+revive-requires-clause-broken c = (
+  told_by (handed_over c.args.plant.now),
+  entered_broken c.args.plant.now c.panic_entry.new.self c.panic_entry.ensures c.requires.armed c.requires.budget c.requires.sound,
+)
 
 pub unreachable-requires : goal.unreachable-requires
 unreachable-requires c =
