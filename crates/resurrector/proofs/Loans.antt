@@ -20,6 +20,7 @@ use Rattle.ow_plant.specs.Lent.{LentState, lent_of}
 use Rattle.ow_plant.specs.State.{Device, IsArmed, PlantState}
 use Rattle.ow_plant.proofs.Loans.{beside_stays}
 use Rattle.dead_reader.specs.Left.{records_left}
+use Rattle.resurrector.specs.Counts.{most_stores}
 use Rattle.resurrector.specs.Flights.{HasFlightRoom, IsTapeLeft, tape_put}
 use Rattle.resurrector.specs.Plants.{other_area, own_map, own_words_in}
 use Rattle.resurrector.specs.Revived.{plan_of}
@@ -100,3 +101,8 @@ module _ (d dead : DeadState) (w words : WordMap) (tty : ℕ) (old before new af
 
   pub left_again : IsTapeLeft (records_left d w) tty old new → IsTapeLeft (records_left dead words) tty before after
   left_again is = rw (← same, ← read, ← begun, left) is
+
+-- no more stores were made of what is lent than of the plant
+pub stores_again : (d dead : DeadState) (old before new after : ℕ) → d ≡ dead → old ≡ before → after ≡ new
+    → new ≤ old + most_stores d.user_frames → after ≤ before + most_stores dead.user_frames
+stores_again d dead old before new after same begun left is = rw (← same, ← begun, left) is

@@ -5,7 +5,7 @@ use Rattle.ow_plant.specs.Lent.{LentState}
 use Rattle.ow_plant.specs.Owning.{own_words}
 use Rattle.ow_plant.specs.declared.own_half.OwnPlace.{OwnPlace}
 use Rattle.word_store.proofs.Outcomes.{on_ok}
-use Rattle.resurrector.proofs.Loans.{built_again, dead_stays, left_again, read_again, room_again, shown_again, tape_again, words_after}
+use Rattle.resurrector.proofs.Loans.{built_again, dead_stays, left_again, read_again, room_again, shown_again, stores_again, tape_again, words_after}
 use Rattle.resurrector.proofs.plants.resurrect.Goals as goal
 
 pub returns-clause-built : goal.returns-clause-built
@@ -109,3 +109,9 @@ pub resurrect_lent-revival-requires-clause-counted1 : goal.resurrect_lent-reviva
 resurrect_lent-revival-requires-clause-counted1 c =
     ap (λ (dead : DeadState). dead.counts 1) c.resurrection-own.ensures.left
     ∙ sym (ap (λ (lent : LentState). length lent.tty1.tape) c.resurrection-own.ensures.own)
+
+pub returns-clause-few : goal.returns-clause-few
+returns-clause-few c =
+    stores_again _ _ _ c.args.plant.now.stores c.resurrect_lent-revival.new.own.lent.now.stores _ c.resurrection-own.ensures.left
+    (ap (λ (lent : LentState). lent.stores) c.resurrection-own.ensures.own) (search rules)
+    c.resurrect_lent-revival.ensures.counted
