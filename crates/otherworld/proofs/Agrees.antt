@@ -1,17 +1,12 @@
--- A sound plant agrees with the state of the Unix that it stands for, and so with its report.
-use Rattle.std.proofs.Common.{◌≡◌, ℕ, ◌+◌, ◌×◌, ◌<◌, zero, suc, nat_eq, false, true, List, [], length, Option, Some, None, refl, sym, arith}
+-- A sound plant agrees with the state of the Unix that it stands for.
+use Rattle.std.proofs.Common.{◌≡◌, ℕ, ◌+◌, ◌<◌, zero, suc, nat_eq, false, true, List, [], length, Option, Some, None, refl, sym, ap, arith}
 use Rattle.std.specs.Prelude.{is_some, IfSome}
 use Rattle.std.proofs.lemmas.Bool.Decides.{nat_tests}
-use Rattle.ow_base.specs.declared.worlds.Ending.{Ending}
-use Rattle.ow_base.specs.declared.worlds.PanicLine.{PanicLine}
-use Rattle.ow_base.specs.declared.worlds.PanicRecord.{PanicRecord}
-use Rattle.record_layouts.specs.declared.fates.Fate.{Fate}
 use Rattle.record_layouts.specs.declared.places.RecordId.TheVariants as id
 use Rattle.record_layouts.specs.declared.term.TermRec.{TermRec}
 use Rattle.record_layouts.specs.Decode.{terminal_by, unix_of}
 use Rattle.record_layouts.specs.Held.{Records}
-use Rattle.record_layouts.specs.Unix.PanicReport.{panic_lines, unused_lines, report_with}
-use Rattle.record_layouts.specs.Unix.Report.{report_of, shown_on}
+use Rattle.record_layouts.specs.Unix.Report.{shown_on}
 use Rattle.record_layouts.specs.Unix.State.{Unix}
 use Rattle.ow_plant.specs.Images.{tapes_of}
 use Rattle.ow_plant.specs.State.{PlantState, Device, tty_of}
@@ -38,15 +33,6 @@ unfolding unix_at unix_of
 terminal1 s sound =
     terminal_shown (records_held s) 1 s.tty1 ((records_held s).terms 1) (sound.held.records.complete (id.Term 1) (omega arith)) (sound.terminals.records 1 (omega arith))
 
--- the Unix counts as the plant does
-pub unix_steps : (s : PlantState) → (unix_at s).steps ≡ s.steps
-unfolding unix_at unix_of
-unix_steps s = refl
-
-pub unix_traps : (s : PlantState) → (unix_at s).traps ≡ s.traps
-unfolding unix_at unix_of
-unix_traps s = refl
-
 tapes_same : (s : PlantState) → IsSound s → (tty : ℕ) → tty < 2 → ((unix_at s).terminals tty).tape ≡ tapes_of s tty
 tapes_same s sound zero few = (terminal0 s sound).0
 tapes_same s sound (suc zero) few = (terminal1 s sound).0
@@ -62,8 +48,16 @@ pub agrees : (s : PlantState) → IsSound s → PlantAgrees s (unix_at s)
 unfolding unix_at
 agrees s sound = record { decodes = (context_of s, refl); tapes = tapes_same s sound; shown = shown_same s sound }
 
--- where no panic is listed and none came, the report tells of none
-pub report_same : (panics : List PanicLine) (history : List PanicRecord) (told : List (List (ℕ × Fate))) (ending : Ending) (w : Unix) → panics ≡ [] → history ≡ []
-    → report_with panics history told ending w ≡ report_of ending w
-unfolding report_with report_of panic_lines unused_lines
-report_same panics history told ending w none_listed none_came = rw (none_listed, none_came) refl
+-- what its processor has of a process is what it is read with
+pub agrees_by_context : (s : PlantState) (sound : IsSound s) → (agrees s sound).decodes.0 ≡ context_of s
+unfolding agrees
+agrees_by_context s sound = refl
+
+-- a plant counts as the state that it agrees with
+pub steps_agree : (s : PlantState) (w : Unix) → PlantAgrees s w → s.steps ≡ w.steps
+unfolding unix_of
+steps_agree s w agrees = sym (ap (λ (u : Unix). u.steps) agrees.decodes.1)
+
+pub traps_agree : (s : PlantState) (w : Unix) → PlantAgrees s w → s.traps ≡ w.traps
+unfolding unix_of
+traps_agree s w agrees = sym (ap (λ (u : Unix). u.traps) agrees.decodes.1)

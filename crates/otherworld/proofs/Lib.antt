@@ -1,5 +1,6 @@
 -- Lemmas of the program.
-pub mod Tops
+pub mod ArmedWorlds
 pub mod Agrees
+pub mod Tops
 pub mod Worked
 pub mod Texts

@@ -6,18 +6,20 @@ use Rattle.world_file.specs.declared.why.Why.TheVariants.{TooLarge}
 use Rattle.world_file.specs.declared.reader.WorldFault.{WorldFault}
 use Rattle.world_file.specs.declared.reader.WorldFault.TheVariants.{Bad}
 use Rattle.world_file.specs.declared.reader.WorldFault.TheVariants as fault
-use Rattle.world_file.specs.WorldRefusals.{IsRefused, IsRefusedFault, Long}
-use Rattle.record_layouts.specs.Unix.State.{start_of}
-use Rattle.record_layouts.specs.Unix.Run.{Run, RunsFrom}
-use Rattle.record_layouts.specs.Unix.Report.{report_of}
+use Rattle.world_file.specs.WorldRefusals.{IsBuilt, IsRefused, IsRefusedFault, Long}
+use Rattle.record_layouts.specs.Unix.Panics.{RunWith}
+use Rattle.record_layouts.specs.Unix.PanicReport.{report_with}
+use Rattle.record_layouts.specs.declared.fates.Fate.{Fate}
 use Rattle.ow_base.specs.declared.worlds.World.{World}
 use Rattle.ow_base.specs.declared.worlds.Ending.{Ending}
-use Rattle.ow_base.specs.declared.worlds.PanicRecord.{PanicRecord}
 use Rattle.ow_base.specs.declared.worlds.Ending.TheVariants as ending
 use Rattle.ow_plant.specs.State.{PlantState}
+use Rattle.ow_plant.specs.declared.points.PanicPoint.{PanicPoint}
 use Rattle.kernel_traps.specs.Plants.{unix_at, IsSound}
-use Rattle.otherworld.proofs.Agrees.{terminal0, terminal1, unix_steps, unix_traps}
-use Rattle.otherworld.specs.Top.{PlantAgrees, IsRead, IsReported, IsNoWorld, Intends, status_of, unread_status, refusal_text, most_bytes}
+use Rattle.schedule_runner.specs.Histories.{images_of, lines_of, world_of}
+use Rattle.otherworld.proofs.Agrees.{agrees, agrees_by_context}
+use Rattle.otherworld.proofs.ArmedWorlds.{world_is}
+use Rattle.otherworld.specs.Top.{IsRead, IsReported, IsNoWorld, Intends, status_of, unread_status, refusal_text, most_bytes}
 
 -- behind the last byte there is none
 drop_past : (n : ℕ) (bytes : List ℕ) → length bytes ≤ n → drop n bytes ≡ []
@@ -44,26 +46,19 @@ pub unread_intends : (left after : Option (List ℕ)) (bytes : List ℕ) (rose :
 unread_intends left after bytes rose plant (Bad number why) takes small refused = (refl, no_world left after bytes number why takes small refused, refl, refl)
 unread_intends left after bytes rose plant (fault.Memory e) takes small refused = (refl, refl, refl)
 
--- a sound plant stands as the state that it decodes to
-pub PlantAgrees-sound : (s : PlantState) → IsSound s → PlantAgrees s (unix_at s)
-PlantAgrees-sound s sound = record {
-  armed = sound.held.armed.armed;
-  decodes = refl;
-  steps = sym (unix_steps s);
-  traps = sym (unix_traps s);
-  tape0 = sym (terminal0 s sound).0;
-  tape1 = sym (terminal1 s sound).0;
-  display0 = sym (terminal0 s sound).1;
-  display1 = sym (terminal1 s sound).1;
-}
-
--- a run from the start of a world's load, on a plant with no panic, is one of the world
-pub reports : (world : World) (s : PlantState) (e : Ending) → s.history ≡ [] → IsSound s → RunsFrom world.load.shape (start_of world.load) [] e (unix_at s)
-    → IsReported world s e (report_of e (unix_at s))
-reports world s e none sound run = record {
+-- a run on a plant that was armed for a world is one of the world
+pub reports : (world : World) (points : List PanicPoint) (s : PlantState) (told : List (List (ℕ × Fate))) (e : Ending) → IsBuilt world
+    → lines_of points ≡ world.panics → lines_of s.points ≡ lines_of points → IsSound s
+    → RunWith (world_of world.load points) (images_of s) s.history told e (unix_at s)
+    → IsReported world s e (report_with world.panics s.history told e (unix_at s))
+reports world points s told e built listed same sound run = record {
   w = unix_at s;
-  run = subst (λ (h : List PanicRecord). Run world h e (unix_at s)) (sym none) run;
-  agrees = PlantAgrees-sound s sound;
+  told = told;
+  run = subst (λ (world : World). RunWith world (images_of s) s.history told e (unix_at s)) (world_is world points built listed) run;
+  points = same ∙ listed;
+  armed = sound.held.armed.armed;
+  agrees = agrees s sound;
+  context = agrees_by_context s sound;
   reported = refl;
 }
 

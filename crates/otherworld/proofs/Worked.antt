@@ -10,13 +10,18 @@ use Rattle.record_layouts.specs.Unix.State.{Unix, started_rights, started_byte, 
 use Rattle.record_layouts.specs.Unix.Choice.{least_from, deliverable, goes_on as call_goes_on, chosen, is_any_live, settled}
 use Rattle.record_layouts.specs.Unix.Calls.{trapped, answered, stays_in, ended_as, description_of, tty_write, write_entry, exit_entry, called, call_entered, continued, piece_of}
 use Rattle.record_layouts.specs.Unix.Turn.{step_of, stepped, user_turn, idled, turn_at, turn, ending_of, closed}
-use Rattle.record_layouts.specs.Unix.Run.{Run, RunsFrom, ends, goes_on}
+use Rattle.record_layouts.specs.Unix.Panics.{Images, RunWith, RunsWith, Ends, GoesOn}
+use Rattle.record_layouts.specs.Unix.PanicReport.{panic_lines, unused_lines, report_with}
+use Rattle.record_layouts.specs.declared.fates.Fate.{Fate}
+use Rattle.panic_rows.proofs.OneRun.{one}
+use Rattle.panic_rows.proofs.Quiet.{history_is_empty, never_due}
 use Rattle.ow_base.specs.Screen.{blank_screen, on_next_line, printed, drawn, screen_of}
-use Rattle.record_layouts.specs.Unix.Report.{head_text, status_words, process_lines, out_lines, trimmed, row_lines, screen_text, terminal_text, report_of}
+use Rattle.record_layouts.specs.Unix.Report.{head_text, status_words, process_lines, out_lines, trimmed, row_lines, screen_text, terminal_text}
 use Rattle.ow_base.specs.Outside.{appended}
 use Rattle.ow_base.specs.World.{IsWorld}
 use Rattle.ow_base.specs.declared.machine.Shape.{Shape}
 use Rattle.ow_base.specs.declared.worlds.Ending.{Ending}
+use Rattle.ow_base.specs.declared.worlds.World.{World}
 use Rattle.ow_base.specs.declared.worlds.Ending.TheVariants.{Done, Budget, Restarted}
 use Rattle.ow_base.specs.declared.worlds.PanicRecord.{PanicRecord}
 use Rattle.ow_plant.specs.State.{PlantState}
@@ -24,17 +29,19 @@ use Rattle.world_file.specs.WorldLines.{pieces, tokens, key_of, number_of, word_
 use Rattle.world_file.specs.WorldReasons.{first_reason}
 use Rattle.world_file.specs.WorldReading.{with_line, read_lines, read_text}
 use Rattle.world_file.specs.WorldRefusals.{IsRefused, IsBuilt}
-use Rattle.world_file.specs.declared.why.Why.TheVariants.{Number, End}
+use Rattle.world_file.specs.declared.why.Why.TheVariants.{Number, Order, End}
 use Rattle.world_file.proofs.WorldLaws.{reads, refuses, built_is_not_refused}
 use Rattle.world_file.proofs.WorldUnique.{one_world}
 use Rattle.otherworld.specs.declared.top.Status.{Status}
 use Rattle.otherworld.specs.declared.top.Status.TheVariants as status
+use Rattle.schedule_runner.specs.Histories.{images_of}
+use Rattle.otherworld.proofs.Agrees.{steps_agree, traps_agree}
 use Rattle.otherworld.specs.Top.{Answers, Intends, IsSaid, IsRun, IsReported, memory_text}
-use Rattle.otherworld.specs.Rows.{worked_world, exit_seven, exit_seven_text, exit_seven_report, hi_on, hi, hi_text, hi_report, three_hi, three_hi_text, three_hi_report, few_frames_text, no_end_text, turned, after}
+use Rattle.otherworld.specs.Rows.{worked_world, exit_seven, exit_seven_text, exit_seven_report, hi_on, hi, hi_text, hi_report, three_hi, three_hi_text, three_hi_report, few_frames_text, no_end_text, panic_twice_text, turned, after}
 
 -- `unfolding rows` lets `refl` compute the reading of a text, a run and a report
 unfoldable pub rows : Unit {0}
-unfolding digits hex8 escaped_byte immediate_act register_act branch_act load_act store_act system_act act_of gone_to after_load after_store acted after_fetch user_step page_space is_readable bytes_at started_rights started_byte started_pages started_process started_as started_description start_of least_from deliverable call_goes_on chosen is_any_live settled trapped answered stays_in ended_as description_of tty_write write_entry exit_entry called call_entered continued piece_of step_of stepped user_turn idled turn_at turn ending_of closed blank_screen on_next_line printed drawn screen_of head_text status_words process_lines out_lines trimmed row_lines screen_text terminal_text report_of pieces tokens key_of number_of word_of is_name words_of first_reason with_line read_lines read_text worked_world exit_seven exit_seven_text exit_seven_report hi_on hi hi_text hi_report three_hi three_hi_text three_hi_report few_frames_text no_end_text turned after
+unfolding digits hex8 escaped_byte immediate_act register_act branch_act load_act store_act system_act act_of gone_to after_load after_store acted after_fetch user_step page_space is_readable bytes_at started_rights started_byte started_pages started_process started_as started_description start_of least_from deliverable call_goes_on chosen is_any_live settled trapped answered stays_in ended_as description_of tty_write write_entry exit_entry called call_entered continued piece_of step_of stepped user_turn idled turn_at turn ending_of closed blank_screen on_next_line printed drawn screen_of head_text status_words process_lines out_lines trimmed row_lines screen_text terminal_text panic_lines unused_lines report_with pieces tokens key_of number_of word_of is_name words_of first_reason with_line read_lines read_text worked_world exit_seven exit_seven_text exit_seven_report hi_on hi hi_text hi_report three_hi three_hi_text three_hi_report few_frames_text no_end_text panic_twice_text turned after
 rows = tt
 
 -- the texts of the worlds
@@ -67,6 +74,10 @@ pub no_end_refused : IsRefused no_end_text 9 End
 unfolding rows
 no_end_refused = refuses no_end_text (record { line = 9; why = End }) refl
 
+pub panic_twice_refused : IsRefused panic_twice_text 10 Order
+unfolding rows
+panic_twice_refused = refuses panic_twice_text (record { line = 10; why = Order }) refl
+
 -- the run goes on before each of so many turns
 unfoldable goes_through : Shape → Unix → (count : ℕ) → Bool
 goes_through shape u zero = true
@@ -82,41 +93,40 @@ is_none-None : {A : Type 0} (o : Option A) → is_none o ≡ true → o ≡ None
 is_none-None None h = refl
 is_none-None (Some a) h = absurd (cc h)
 
--- a run that goes on for so many turns and then ends
-run_through : (shape : Shape) (u : Unix) (n : ℕ) (e : Ending) → goes_through shape u n ≡ true → ending_of shape (turned shape u n) ≡ Some e
-    → RunsFrom shape u [] e (closed (turned shape u n))
-unfolding goes_through turned
-run_through shape u zero e through last = ends u e last
-run_through shape u (suc n) e through last =
-    let parts = and_parts (is_none (ending_of shape u)) (goes_through shape (turn shape u) n) through in
-    let same = turned_first shape u n in
-    goes_on u [] e (closed (turned shape u (suc n))) (is_none-None (ending_of shape u) parts.0)
-    (subst (λ (w : Unix). RunsFrom shape (turn shape u) [] e (closed w)) same
-    (run_through shape (turn shape u) n e parts.1 (subst (λ (w : Unix). ending_of shape w ≡ Some e) (sym same) last)))
+module _ (world : World) (images : Images) (none : world.panics ≡ []) where
+  -- a run that goes on for so many turns and then ends, of a world that lists no panic
+  run_through : (u : Unix) (n : ℕ) (e : Ending) → goes_through world.load.shape u n ≡ true → ending_of world.load.shape (turned world.load.shape u n) ≡ Some e
+      → RunsWith world images u [] [] e (closed (turned world.load.shape u n))
+  unfolding goes_through turned
+  run_through u zero e through last = Ends u e (never_due world u none) last
+  run_through u (suc n) e through last =
+      let shape = world.load.shape in
+      let parts = and_parts (is_none (ending_of shape u)) (goes_through shape (turn shape u) n) through in
+      let same = turned_first shape u n in
+      GoesOn u [] [] e (closed (turned shape u (suc n))) (never_due world u none) (is_none-None (ending_of shape u) parts.0)
+      (subst (λ (w : Unix). RunsWith world images (turn shape u) [] [] e (closed w)) same
+      (run_through (turn shape u) n e parts.1 (subst (λ (w : Unix). ending_of shape w ≡ Some e) (sym same) last)))
 
 -- the runs
-pub exit_seven_run : Run exit_seven [] Done (closed (after exit_seven 3))
+pub exit_seven_run : (images : Images) → RunWith exit_seven images [] [] Done (closed (after exit_seven 3))
 unfolding rows goes_through
-exit_seven_run = run_through exit_seven.load.shape (start_of exit_seven.load) 3 Done refl refl
+exit_seven_run images = run_through exit_seven images refl (start_of exit_seven.load) 3 Done refl refl
 
-pub hi_run : Run hi [] Done (closed (after hi 8))
+pub hi_run : (images : Images) → RunWith hi images [] [] Done (closed (after hi 8))
 unfolding rows goes_through
-hi_run = run_through hi.load.shape (start_of hi.load) 8 Done refl refl
+hi_run images = run_through hi images refl (start_of hi.load) 8 Done refl refl
 
-pub three_hi_run : Run three_hi [] Done (closed (after three_hi 24))
+pub three_hi_run : (images : Images) → RunWith three_hi images [] [] Done (closed (after three_hi 24))
 unfolding rows goes_through
-three_hi_run = run_through three_hi.load.shape (start_of three_hi.load) 24 Done refl refl
+three_hi_run images = run_through three_hi images refl (start_of three_hi.load) 24 Done refl refl
 
-pub three_hi_reports : report_of Done (closed (after three_hi 24)) ≡ three_hi_report
+pub three_hi_reports : report_with three_hi.panics [] [] Done (closed (after three_hi 24)) ≡ three_hi_report
 unfolding rows
 three_hi_reports = refl
 
--- two runs from one state are one, whatever their histories
-one : (shape : Shape) (u : Unix) (h k : List PanicRecord) (a b : Ending) (v w : Unix) → RunsFrom shape u h a v → RunsFrom shape u k b w → (a ≡ b) × (v ≡ w)
-one shape u h k a b v w (ends u1 a1 e) (ends u2 b2 f) = let same : a ≡ b = cc in (same, refl)
-one shape u h k a b v w (ends u1 a1 e) (goes_on u2 h2 b2 w2 f s) = absurd (cc (e, f))
-one shape u h k a b v w (goes_on u1 h1 a1 v1 e r) (ends u2 b2 f) = absurd (cc (e, f))
-one shape u h k a b v w (goes_on u1 h1 a1 v1 e r) (goes_on u2 h2 b2 w2 f s) = one shape (turn shape u) h k a b v w r s
+hi_lists_none : hi.panics ≡ []
+unfolding rows
+hi_lists_none = refl
 
 pub hi_steps : (closed (after hi 8)).steps ≡ 8
 unfolding rows
@@ -126,18 +136,21 @@ pub hi_traps : (closed (after hi 8)).traps ≡ 3
 unfolding rows
 hi_traps = refl
 
-pub hi_reports : report_of Done (closed (after hi 8)) ≡ hi_report
+pub hi_reports : report_with hi.panics [] [] Done (closed (after hi 8)) ≡ hi_report
 unfolding rows
 hi_reports = refl
 
--- what is reported of the world hi
+-- what is reported of the world hi, which lists no panic
 of_hi : (plant : PlantState) (ending : Ending) (text : List ℕ) → IsReported hi plant ending text → (ending ≡ Done) × (plant.steps ≡ 8) × (plant.traps ≡ 3) × (text ≡ hi_report)
 of_hi plant ending text is =
-    let same = one hi.load.shape (start_of hi.load) plant.history [] ending Done is.w (closed (after hi 8)) is.run hi_run in (
-      same.0,
-      is.agrees.steps ∙ ap (λ (w : Unix). w.steps) same.1 ∙ hi_steps,
-      is.agrees.traps ∙ ap (λ (w : Unix). w.traps) same.1 ∙ hi_traps,
-      is.reported ∙ ap (λ w. report_of ending w) same.1 ∙ ap (λ e. report_of e (closed (after hi 8))) same.0 ∙ hi_reports,
+    let none = history_is_empty hi (images_of plant) (start_of hi.load) plant.history is.told ending is.w hi_lists_none is.run in
+    let run = subst (λ (h : List PanicRecord). RunWith hi (images_of plant) h is.told ending is.w) none.0 is.run in
+    let same = one hi (images_of plant) (start_of hi.load) [] is.told [] ending Done is.w (closed (after hi 8)) run (hi_run (images_of plant)) in (
+      same.1,
+      steps_agree plant is.w is.agrees ∙ ap (λ (w : Unix). w.steps) same.2 ∙ hi_steps,
+      traps_agree plant is.w is.agrees ∙ ap (λ (w : Unix). w.traps) same.2 ∙ hi_traps,
+      is.reported ∙ ap (λ h. report_with hi.panics h is.told ending is.w) none.0 ∙ ap (λ t. report_with hi.panics [] t ending is.w) same.0
+          ∙ ap (λ w. report_with hi.panics [] [] ending w) same.2 ∙ ap (λ e. report_with hi.panics [] [] e (closed (after hi 8))) same.1 ∙ hi_reports,
     )
 
 one_report : (left : Option (List ℕ)) (plant : PlantState) (ending : Ending) (text : List ℕ) → IsRun (Some hi_text) left plant ending text

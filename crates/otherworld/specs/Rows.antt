@@ -1,4 +1,4 @@
--- Three worked worlds, with their texts and reports, and two texts that are refused.
+-- Three worked worlds, with their texts and reports, and three texts that are refused.
 use Rattle.std.specs.Prelude.{ℕ, zero, suc, List, [], ◌∷◌, map, codes}
 use Rattle.record_layouts.specs.Unix.State.{Unix, start_of}
 use Rattle.record_layouts.specs.Unix.Turn.{turn}
@@ -61,6 +61,10 @@ few_frames_text = codes "world 1\nframes 5\nsectors 4\nquantum 100\nbudget 1000\
 
 unfoldable pub no_end_text : List ℕ
 no_end_text = codes "world 1\nframes 32\nsectors 4\nquantum 100\nbudget 1000\nprogram a\ncode 00700513 00100893 00000073\nstart a 0\n"
+
+-- the panics of a world come in traps of their own
+unfoldable pub panic_twice_text : List ℕ
+panic_twice_text = codes "world 1\nframes 32\nsectors 4\nquantum 100\nbudget 1000\nprogram a\ncode 00700513 00100893 00000073\nstart a 0\npanic 1 0\npanic 1 0\nend\n"
 
 -- the state after so many turns from one
 unfoldable pub turned : Shape → Unix → (count : ℕ) → Unix

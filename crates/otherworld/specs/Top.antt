@@ -4,13 +4,16 @@ use Rattle.ow_base.specs.Lines.{line}
 use Rattle.ow_base.specs.Outside.{appended, IsFront, OnTold, Rose}
 use Rattle.ow_base.specs.World.{IsWorld}
 use Rattle.record_layouts.specs.Unix.State.{Unix}
-use Rattle.record_layouts.specs.Unix.Run.{Run}
-use Rattle.record_layouts.specs.Unix.Report.{report_of, shown_on}
+use Rattle.record_layouts.specs.Unix.Panics.{RunWith}
+use Rattle.record_layouts.specs.Unix.PanicReport.{report_with}
+use Rattle.record_layouts.specs.declared.fates.Fate.{Fate}
 use Rattle.ow_base.specs.declared.worlds.World.{World}
 use Rattle.ow_base.specs.declared.worlds.Ending.{Ending}
 use Rattle.ow_base.specs.declared.worlds.Ending.TheVariants as ending
 use Rattle.ow_plant.specs.State.{PlantState}
-use Rattle.kernel_traps.specs.Plants.{unix_at}
+use Rattle.kernel_traps.specs.Plants.{context_of}
+use Rattle.schedule_runner.specs.Histories.{images_of, lines_of}
+use Rattle.ow_report.specs.Agrees.{PlantAgrees}
 use Rattle.world_file.specs.declared.why.Why.{Why}
 use Rattle.world_file.specs.declared.reader.WorldFault.{WorldFault}
 use Rattle.world_file.specs.declared.reader.WorldFault.TheVariants.{Bad}
@@ -75,18 +78,6 @@ abbrev pub unread_status : WorldFault → Status
 unread_status (Bad number why) = BadWorld number why
 unread_status (fault.Memory e) = Memory
 
--- PlantAgrees: the plant stands as the state that a run left, by its records and memory, and by its counts, tapes and
--- displays
-pub record PlantAgrees (plant : PlantState) (w : Unix) : Type 0 where
-  pub armed : plant.armed ≡ true
-  pub decodes : unix_at plant ≡ w
-  pub steps : plant.steps ≡ w.steps
-  pub traps : plant.traps ≡ w.traps
-  pub tape0 : plant.tty0.tape ≡ (w.terminals 0).tape
-  pub tape1 : plant.tty1.tape ≡ (w.terminals 1).tape
-  pub display0 : plant.tty0.display ≡ shown_on (w.terminals 0)
-  pub display1 : plant.tty1.display ≡ shown_on (w.terminals 1)
-
 -- a world of the forms that can be read was read from all that was left
 pub record IsRead (left after : Option (List ℕ)) (world : World) : Type 0 where
   pub input : List ℕ
@@ -95,13 +86,18 @@ pub record IsRead (left after : Option (List ℕ)) (world : World) : Type 0 wher
   pub value : IsWorld input world
   pub built : IsBuilt world
 
--- a run of the world ended so (RunHolds), it left this plant (PlantAgrees), and the text is its report
--- (OutputExact)
+-- A run of the world, with the panics in the plant's history and the fates that these told, ended so (RunHolds), it left
+-- this plant (PlantAgrees), and the text is its report (OutputExact). The points of the plant are the panics that the world
+-- lists, and what the plant stands for is read with what its processor has of a process.
 pub record IsReported (world : World) (plant : PlantState) (ending : Ending) (text : List ℕ) : Type 0 where
   pub w : Unix
-  pub run : Run world plant.history ending w
+  pub told : List (List (ℕ × Fate))
+  pub run : RunWith world (images_of plant) plant.history told ending w
+  pub points : lines_of plant.points ≡ world.panics
+  pub armed : plant.armed ≡ true
   pub agrees : PlantAgrees plant w
-  pub reported : text ≡ report_of ending w
+  pub context : agrees.decodes.0 ≡ context_of plant
+  pub reported : text ≡ report_with world.panics plant.history told ending w
 
 -- a world was read, and its run reported
 abbrev pub IsRun : (left after : Option (List ℕ)) → (plant : PlantState) → Ending → (text : List ℕ) → Type 0

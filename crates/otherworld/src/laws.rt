@@ -1,8 +1,9 @@
 //! What holds of runs as a whole, and of what is answered to a text.
 
 ghost use Rattle.std.specs.Prelude.{◌≡◌, ℕ, List, ◌⊎◌};
-ghost use Rattle.record_layouts.specs.Unix.Run.{Run};
+ghost use Rattle.record_layouts.specs.Unix.Panics.{Images, RunWith};
 ghost use Rattle.record_layouts.specs.Unix.State.{Unix};
+ghost use Rattle.record_layouts.specs.declared.fates.Fate.{Fate};
 ghost use Rattle.ow_base.specs.World.{IsWorld};
 ghost use Rattle.ow_base.specs.declared.worlds.World.{World};
 ghost use Rattle.ow_base.specs.declared.worlds.Ending.{Ending};
@@ -13,11 +14,15 @@ ghost use Rattle.otherworld.specs.declared.top.Status.{Status};
 ghost use Rattle.otherworld.specs.declared.top.Status.TheVariants.{BadWorld, Memory};
 ghost use Rattle.otherworld.specs.Top.{MayAnswer, IsCalm, status_of};
 
-/// A world and a history have at most one ending, and one state that the run leaves.
+/// A world, what the entries of a history stand for, and this history have at most one run: one list of fates, one
+/// ending, and one state that it leaves.
 pub fn one_run()
-    ensures { (world : World) (history : List PanicRecord) (a b : Ending) (v w : Unix) →
-        Run world history a v → Run world history b w → (a ≡ b) × (v ≡ w) }
-{}
+    ensures { (world : World) (images : Images) (history : List PanicRecord) (some other : List (List (ℕ × Fate)))
+        (a b : Ending) (v w : Unix) → RunWith world images history some a v → RunWith world images history other b w →
+        (some ≡ other) × (a ≡ b) × (v ≡ w) }
+{
+    panic_rows::one_run();
+}
 
 /// Only a text of a world of the forms that can be read is run, and only one that is refused, which is of no such
 /// world, is answered BadWorld. Where source and sink do not fail, each such text is run and each other refused,

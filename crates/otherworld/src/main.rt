@@ -2,6 +2,7 @@
 //! go out.
 #![tactic(auto)]
 
+mod arming;
 mod laws;
 mod rows;
 mod top;

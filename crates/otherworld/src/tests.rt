@@ -12,6 +12,13 @@ const HI: &str =
 const HI_REPORT: &str =
     "otherworld 1\nending done\nsteps 8\ntraps 3\nexit 1 code 0\ntty 0 3\nout Hi\\n\nscreen 0 1 0\nrow 0 Hi\ntty 1 0\nscreen 1 0 0\nend\n";
 
+/// The world hi with a panic at the first store of its write, which is aborted.
+const HI_PANIC: &str =
+    "world 1\nframes 32\nsectors 4\nquantum 100\nbudget 1000\nprogram a\ncode 00100513 000115b7 00300613 00200893 00000073 00000513 00100893 00000073\ndata 000a6948\nstart a 0\npanic 1 0\nend\n";
+
+const HI_PANIC_REPORT: &str =
+    "otherworld 1\nending done\nsteps 8\ntraps 3\npanic 1 0 store pid 1\naborted 1\nexit 1 code 0\ntty 0 0\nscreen 0 0 0\ntty 1 0\nscreen 1 0 0\nend\n";
+
 const READ_FAULT: &str = "read fault\n";
 
 const USAGE: &str = "usage: otherworld run | run --evidence | asm | gen N\n";
@@ -39,30 +46,40 @@ fn streams_may_fail_at_any_call(rt: HostRuntime) -> Result<(), Fail> {
     // at one byte a call, the input's end takes one read more
     let last_read = u32::try_from(HI.len()).unwrap_or(0).saturating_add(1);
     let last_write = u32::try_from(HI_REPORT.len()).unwrap_or(0);
-    // the words, how many bytes a read or a write may take, 0 being any, the read and the write that fail, 0
-    // being none, the status, and the text of which at least a front is written
+    let last_panic_write = u32::try_from(HI_PANIC_REPORT.len()).unwrap_or(0);
+    // the words, the input, how many bytes a read or a write may take, 0 being any, the read and the write that
+    // fail, 0 being none, the status, and the text of which at least a front is written
     let rows = [
-        ("run", 0usize, 0u32, 0u32, Status::Done, HI_REPORT),
-        ("run", 1, 0, 0, Status::Done, HI_REPORT),
-        ("run", 0, 1, 0, Status::ReadFault, READ_FAULT),
-        ("run", 0, 2, 0, Status::ReadFault, READ_FAULT),
-        ("run", 1, 1, 0, Status::ReadFault, READ_FAULT),
-        ("run", 1, 100, 0, Status::ReadFault, READ_FAULT),
-        ("run", 1, last_read, 0, Status::ReadFault, READ_FAULT),
-        ("run", 0, 0, 1, Status::WriteFault, HI_REPORT),
-        ("run", 0, 0, 2, Status::WriteFault, HI_REPORT),
-        ("run", 0, 0, 10, Status::WriteFault, HI_REPORT),
-        ("run", 1, 0, 1, Status::WriteFault, HI_REPORT),
-        ("run", 1, 0, 100, Status::WriteFault, HI_REPORT),
-        ("run", 1, 0, last_write, Status::WriteFault, HI_REPORT),
-        ("run", 0, 1, 1, Status::WriteFault, READ_FAULT),
-        ("", 0, 1, 0, Status::Usage, USAGE),
-        ("fly", 0, 1, 0, Status::Usage, USAGE),
-        ("run x", 0, 1, 0, Status::Usage, USAGE),
-        ("fly", 0, 0, 1, Status::WriteFault, USAGE),
+        ("run", HI, 0usize, 0u32, 0u32, Status::Done, HI_REPORT),
+        ("run", HI, 1, 0, 0, Status::Done, HI_REPORT),
+        ("run", HI, 0, 1, 0, Status::ReadFault, READ_FAULT),
+        ("run", HI, 0, 2, 0, Status::ReadFault, READ_FAULT),
+        ("run", HI, 1, 1, 0, Status::ReadFault, READ_FAULT),
+        ("run", HI, 1, 100, 0, Status::ReadFault, READ_FAULT),
+        ("run", HI, 1, last_read, 0, Status::ReadFault, READ_FAULT),
+        ("run", HI, 0, 0, 1, Status::WriteFault, HI_REPORT),
+        ("run", HI, 0, 0, 2, Status::WriteFault, HI_REPORT),
+        ("run", HI, 0, 0, 10, Status::WriteFault, HI_REPORT),
+        ("run", HI, 1, 0, 1, Status::WriteFault, HI_REPORT),
+        ("run", HI, 1, 0, 100, Status::WriteFault, HI_REPORT),
+        ("run", HI, 1, 0, last_write, Status::WriteFault, HI_REPORT),
+        (
+            "run",
+            HI_PANIC,
+            1,
+            0,
+            last_panic_write,
+            Status::WriteFault,
+            HI_PANIC_REPORT,
+        ),
+        ("run", HI, 0, 1, 1, Status::WriteFault, READ_FAULT),
+        ("", HI, 0, 1, 0, Status::Usage, USAGE),
+        ("fly", HI, 0, 1, 0, Status::Usage, USAGE),
+        ("run x", HI, 0, 1, 0, Status::Usage, USAGE),
+        ("fly", HI, 0, 0, 1, Status::WriteFault, USAGE),
     ];
-    for (words, pace, read, write, status, text) in rows {
-        let input = Vec::from_slice(alloc, HI.as_bytes())?;
+    for (words, world, pace, read, write, status, text) in rows {
+        let input = Vec::from_slice(alloc, world.as_bytes())?;
         let mut source = MemSource::new(input, vec![in alloc; read]?).with_pace(pace);
         let mut sink = MemSink::new(vec![in alloc; 0; 1000]?, vec![in alloc; write]?).with_pace(
             pace,
@@ -77,14 +94,14 @@ fn streams_may_fail_at_any_call(rt: HostRuntime) -> Result<(), Fail> {
         } else {
             assert_eq!(rt; written.len(), text.len());
         }
-        if pace == 1 && write == last_write {
+        if pace == 1 && (write == last_write || write == last_panic_write) {
             assert_eq!(rt; written.len() + 1, text.len());
         }
         if status == Status::Done {
             assert!(rt; source.left().is_empty());
         }
         if status == Status::Usage {
-            assert_eq!(rt; source.left(), HI.as_bytes());
+            assert_eq!(rt; source.left(), world.as_bytes());
         }
     }
     Ok(())

@@ -1,12 +1,14 @@
 //! The top call: it reads a world, runs it and writes the report, or says why not.
 
-ghost use Rattle.std.specs.Prelude.{◌≡◌, ◌≤◌, ◌<◌, ◌+◌, List, ℕ, false, true, [], IfOk, IfErr, OnErr};
+ghost use Rattle.std.specs.Prelude.{◌≡◌, ◌≤◌, ◌<◌, ◌+◌, List, ℕ, false, true, IfOk, IfErr, OnErr};
 ghost use Rattle.ow_base.specs.Outside.{Rose, Writes};
 ghost use Rattle.ow_base.specs.World.{IsWorld};
 ghost use Rattle.ow_base.specs.declared.worlds.Ending.{Ending};
-ghost use Rattle.ow_plant.specs.State.{IsReady};
+ghost use Rattle.world_file.specs.WorldRefusals.{IsBuilt};
+ghost use Rattle.otherworld.specs.Arming.{IsArmedFor};
 ghost use Rattle.otherworld.specs.Top.{unread_status, is_run as is_run_alone, refusal_text, bad_world_text, status_of as status_at, Intends, IsSaid, IsRead, IsReported, Answers};
 
+use crate::arming::arm_for;
 use kernel_traps::worlds_can_boot;
 use ow_base::{Ending, Failed, ReadAllFault, Sink, Source, World, put_all, put_number, read_all};
 use ow_plant::Plant;
@@ -136,17 +138,15 @@ fn unread(fault: WorldFault) -> Status
     }
 }
 
-/// Reads a world and arms the plant for it, with no panics, and makes a log for its run. A refusal leaves the plant as it
-/// was.
+/// Reads a world, arms the plant for it and makes the log of its run. A refusal leaves the plant as it was.
 fn load_world<S: Source>(
     alloc: Global,
     source: &mut S,
     plant: &mut Plant,
 ) -> Result<(World, RunLog), Status>
     requires { plant.old.armed ≡ false }
-    ensures read { IfOk result (λ it. IsRead (S.left source.old) (S.left source.new) it.0) }
-    ensures ready { IfOk result (λ it. IsReady it.0.load.shape plant.new) }
-    ensures none { IfOk result (λ _. plant.new.points ≡ []) }
+    ensures read { IfOk result (λ loaded. IsRead (S.left source.old) (S.left source.new) loaded.0) }
+    ensures armed { IfOk result (λ loaded. IsArmedFor loaded.0 loaded.1 plant.new) }
     ensures refused { IfErr result (λ status. Intends true (S.left source.old) (S.left source.new) (Rose (S.faults source.old) (S.faults source.new)) plant.old plant.new status (refusal_text status)) }
     ensures never_falls { S.faults source.old ≤ S.faults source.new }
 {
@@ -165,36 +165,32 @@ fn load_world<S: Source>(
         Ok(world) => world,
         Err(fault) => return Err(unread(fault)),
     };
-    let log = match RunLog::new(alloc, &world) {
-        Ok(log) => log,
-        Err(AllocError) => return Err(Status::Memory),
-    };
-    match plant.arm(alloc, world.load.shape, &[], &[], &[]) {
-        Ok(()) => Ok((world, log)),
+    match arm_for(alloc, plant, &world) {
+        Ok(log) => Ok((world, log)),
         Err(AllocError) => Err(Status::Memory),
     }
 }
 
-/// Runs a world on the plant that is armed for it, and writes the report.
-fn run_world<K: Sink>(world: &World, log: &RunLog, plant: &mut Plant, sink: &mut K) -> Status
-    requires ready { IsReady world.now.load.shape plant.old }
-    requires none { plant.old.points ≡ [] }
+/// Runs a world on the plant that is armed for it, with the panics that it lists, and writes the report. The log is told
+/// what each panic brought.
+fn run_world<K: Sink>(world: &World, log: &mut RunLog, plant: &mut Plant, sink: &mut K) -> Status
+    requires armed { IsArmedFor world.now log.old plant.old }
     requires value { (input : List ℕ) × IsWorld input world.now }
-    requires no_panics { world.now.panics ≡ [] }
+    requires built { IsBuilt world.now }
     ensures reported { (ending : Ending) × (text : List ℕ) × IsReported world.now plant.new ending text
         × IsSaid text (status_at ending) (Rose (K.faults sink.old) (K.faults sink.new)) (K.written sink.old) (K.written sink.new) result }
     ensures never_falls { K.faults sink.old ≤ K.faults sink.new }
 {
     worlds_can_boot();
-    let ending = run(plant, &world.load);
+    let ending = run(plant, &world.load, log);
     match write_report(sink, world, plant, log, ending) {
         Ok(()) => status_of(ending),
         Err(Failed) => Status::WriteFault,
     }
 }
 
-/// The program: with the words `run` it reads a world from the source, runs it on the plant and writes
-/// the report to the sink. With other words it writes how it is used.
+/// The program: with the words `run` it reads a world from the source, runs it on the plant with the panics that it
+/// lists, and writes the report to the sink. With other words it writes how it is used.
 ///
 /// The answer is the status, with its text in the sink. `WriteFault` comes where the sink failed; what was
 /// written is then a front of the text.
@@ -215,7 +211,7 @@ pub fn otherworld<S: Source, K: Sink>(
         return refuse(sink, Status::Usage);
     }
     match load_world(alloc, source, plant) {
-        Ok((world, log)) => run_world(&world, &log, plant, sink),
+        Ok((world, mut log)) => run_world(&world, &mut log, plant, sink),
         Err(status) => refuse(sink, status),
     }
 }

@@ -12,7 +12,7 @@ unfolding rows
 returns-clause-ends c = refl
 
 pub returns-clause-run : goal.returns-clause-run
-returns-clause-run c = exit_seven_run
+returns-clause-run c images = exit_seven_run images
 
 pub returns-clause-counts : goal.returns-clause-counts
 unfolding rows

@@ -8,7 +8,7 @@ unfolding rows
 returns-clause-ends c = refl
 
 pub returns-clause-run : goal.returns-clause-run
-returns-clause-run c = hi_run
+returns-clause-run c images = hi_run images
 
 pub returns-clause-counts : goal.returns-clause-counts
 returns-clause-counts c = (hi_steps, hi_traps)

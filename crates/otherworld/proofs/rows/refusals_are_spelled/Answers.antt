@@ -16,6 +16,10 @@ pub returns-clause-no_end : goal.returns-clause-no_end
 unfolding bad_world_text digits
 returns-clause-no_end c = refl
 
+pub returns-clause-order : goal.returns-clause-order
+unfolding bad_world_text digits
+returns-clause-order c = refl
+
 pub returns-clause-not_built : goal.returns-clause-not_built
 unfolding bad_world_text digits
 returns-clause-not_built c = refl
