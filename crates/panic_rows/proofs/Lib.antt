@@ -5,3 +5,4 @@ pub mod Coming
 pub mod Quiet
 pub mod Running
 pub mod Worked
+pub mod Pairs

@@ -12,5 +12,5 @@ pub use laws::{
 pub use rows::{
     calls_are_told, closing_panic_runs, damaged_byte_runs, exit_panic_runs, fates_are_told,
     first_piece_runs, hi_first_store_runs, hi_leave_runs, losses_run, partial_writes_run,
-    retries_are_told, writers_and_loop_runs,
+    retries_are_told, three_hi_with_panics, writers_and_loop_runs,
 };

@@ -1,7 +1,9 @@
 //! The worked examples.
 
-ghost use Rattle.std.specs.Prelude.{◌≡◌, [], ◌∷◌, ◌++◌, length, replicate, Some, None};
+ghost use Rattle.std.specs.Prelude.{◌≡◌, ℕ, [], ◌∷◌, ◌++◌, length, map, replicate, All, Some, None};
+ghost use Rattle.ow_base.specs.declared.worlds.World.{World};
 ghost use Rattle.ow_base.specs.declared.worlds.Ending.TheVariants as ending;
+ghost use Rattle.record_layouts.specs.Unix.State.{start_of};
 ghost use Rattle.record_layouts.specs.Unix.Choice.{chosen, no_keys};
 ghost use Rattle.record_layouts.specs.Unix.Turn.{closed};
 ghost use Rattle.record_layouts.specs.Unix.Wounds.{no_wounds};
@@ -11,6 +13,7 @@ ghost use Rattle.record_layouts.specs.Unix.PanicReport.{panic_lines, report_with
 ghost use Rattle.record_layouts.specs.declared.fates.Fate.TheVariants as fate;
 ghost use Rattle.panic_rows.specs.Rows.{after, at_leave, at_store, byte_damage, byte_hurt, damaged_at, exit_closing, exit_closing_end, exit_closing_left, exit_closing_report, exit_first, exit_first_end, exit_first_left, exit_first_report, exit_leave, exit_leave_end, exit_leave_left, exit_leave_report, exit_unused, exit_unused_report, head_damage, head_lost, hi_first, hi_first_end, hi_first_left, hi_first_report, hi_hurt, hi_hurt_end, hi_hurt_left, hi_hurt_report, hi_leave, hi_leave_end, hi_leave_left, hi_leave_report, hi_lost, hi_lost_end, hi_lost_left, hi_lost_report, hi_mid, hi_mid_end, hi_mid_left, hi_mid_report, loop_at_once, loop_at_once_end, loop_at_once_left, loop_at_once_report, loop_closing, loop_closing_end, loop_closing_left, loop_closing_report, loop_twice, loop_twice_end, loop_twice_left, loop_twice_left_again, loop_twice_report, retried, retried_history, retried_panics, retried_unused, revived, scroll_end, scroll_leave, scroll_leave_end, scroll_leave_left, scroll_leave_report, second_damage, second_lost, three_hi, three_hi_end, three_hi_left, three_hi_report, writers, writers_end, writers_left, writers_report};
 ghost use Rattle.panic_rows.specs.Mixed.{bank_at, bank_with, calling, descriptors_at, fates_of_call, handlers_at, mixed, mixed_revived, mixed_wounds, save_at};
+ghost use Rattle.panic_rows.specs.Pairs.{IsImaged, WorkedRun, history_of, one_trap, report_at, reports_of_one, reports_with_fifth, reports_with_first, reports_with_fourth, reports_with_second, reports_with_seventh, reports_with_sixth, reports_with_third, told_of, with_fifth, with_first, with_fourth, with_second, with_seventh, with_sixth, with_third, worked_run};
 
 /// A panic at the first store of the write of hi: the call is aborted, and the program goes on to its exit.
 pub const fn hi_first_store_runs()
@@ -155,4 +158,21 @@ pub const fn calls_are_told()
 pub const fn retries_are_told()
     ensures panics { panic_lines retried_history (((1, fate.Aborted) ∷ (2, fate.Procedure 18) ∷ (3, fate.Lost 5) ∷ []) ∷ []) ≡ retried_panics }
     ensures unused { unused_lines retried retried_history ≡ retried_unused }
+{}
+
+/// Three processes that each write Hi and end, with a panic at the first store of one of traps 1 to 8, and of each two
+/// of them. Without a panic there are seven traps, the last of them the closing one. A write is aborted, an exit is made
+/// again and so is the closing trap, and where trap 8 does not come its panic is unused.
+pub const fn three_hi_with_panics()
+    // Each run that is worked out is one of its world, whatever is listed.
+    ensures run { (world : World) (images : Images) (fuel : ℕ) (worked : WorkedRun) → worked_run world fuel (start_of world.load) ≡ Some worked
+        → All (IsImaged images) worked.panics → RunWith world images (history_of worked) (told_of worked) worked.ending worked.last }
+    ensures one { map report_at one_trap ≡ reports_of_one }
+    ensures with_first { map report_at with_first ≡ reports_with_first }
+    ensures with_second { map report_at with_second ≡ reports_with_second }
+    ensures with_third { map report_at with_third ≡ reports_with_third }
+    ensures with_fourth { map report_at with_fourth ≡ reports_with_fourth }
+    ensures with_fifth { map report_at with_fifth ≡ reports_with_fifth }
+    ensures with_sixth { map report_at with_sixth ≡ reports_with_sixth }
+    ensures with_seventh { map report_at with_seventh ≡ reports_with_seventh }
 {}
