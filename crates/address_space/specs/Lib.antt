@@ -1,2 +1,4 @@
 -- The definitions that the contracts cite.
 pub mod Writable
+pub mod Spaces
+pub mod Preparing

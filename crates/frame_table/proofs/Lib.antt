@@ -4,3 +4,6 @@ pub mod Counting
 pub mod Found
 pub mod Tables
 pub mod Framed
+pub mod Free
+pub mod Keeping
+pub mod Kept

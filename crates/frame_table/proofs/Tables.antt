@@ -9,10 +9,11 @@ use Rattle.sv32_tables.specs.Spaces.{Mapping, IsMapped, entry_of, rights_in, byt
 use Rattle.sv32_tables.proofs.Spaces.{pages_by-mapped, pages_ext}
 use Rattle.record_layouts.specs.declared.proc.ProcRec.{ProcRec}
 use Rattle.record_layouts.specs.Held.{Records}
+use Rattle.record_layouts.specs.Memory.{AreOfMemory}
 use Rattle.record_layouts.specs.Proc.{FitsProc}
 use Rattle.record_layouts.specs.Sound.{IsIn, AreMapped, is_table_place}
 use Rattle.record_layouts.specs.Pages.{byte_on, entry_for, frame_of, have_frames, heap_pages, high_place, is_linked, is_mapped, low_place, pages_of, region_of, table_frame}
-use Rattle.frame_table.specs.Maps.{AreOfMemory, framed_pages, mapping_by, map_in, map_of}
+use Rattle.frame_table.specs.Maps.{framed_pages, mapping_by, map_in, map_of}
 use Rattle.frame_table.proofs.Counting.{values_end, low_end, in_or_out, region_none}
 use Rattle.frame_table.proofs.Found.{IsFrameOf, frame_found, one_page_each}
 

@@ -1,12 +1,12 @@
--- The pages of a process by their frames, and records that are of the words of a memory.
-use Rattle.std.specs.Prelude.{◌≡◌, ℕ, ◌+◌, ◌^◌, ◌<◌, ◌≤◌, true, Option, Some, None, is_some}
+-- The pages of a process by their frames.
+use Rattle.std.specs.Prelude.{ℕ, Option, Some, None}
 use Rattle.ow_base.specs.Pages.{Pages}
 use Rattle.ow_base.specs.Sv32.{WordMap}
 use Rattle.ow_base.specs.declared.machine.Rights.{Rights}
 use Rattle.sv32_tables.specs.Spaces.{Mapping, pages_in}
 use Rattle.record_layouts.specs.declared.proc.ProcRec.{ProcRec}
 use Rattle.record_layouts.specs.Held.{Records}
-use Rattle.record_layouts.specs.Pages.{region_of, frame_of, table_frame}
+use Rattle.record_layouts.specs.Pages.{region_of, frame_of}
 
 -- a page is there where it has a frame and rights
 abbrev pub mapping_by : (frame : Option ℕ) → Option Rights → Option Mapping
@@ -29,13 +29,3 @@ map_in r slot page = map_if r slot page (r.procs slot)
 -- the pages of a slot that have a frame, whatever its record and its tables are
 abbrev pub framed_pages : Records → WordMap → (slot : ℕ) → Pages
 framed_pages r words slot = pages_in (map_in r slot) words
-
--- The records are of the words of a memory: the words of the tables are there, each user frame is whole, the user
--- frames are none of the area's, and what is no user frame has no owner.
-pub record AreOfMemory (r : Records) (words : WordMap) : Type 0 where
-  pub tables : (slot table word : ℕ) → slot < 16 → table < 3 → word < 1024
-      → words (r.map.area_base + table_frame slot table) word ≡ Some (r.table_words slot table word)
-  pub whole : (i word : ℕ) → i < r.map.user_frames → word < 1024 → is_some (words (r.map.pool_base + i) word) ≡ true
-  pub no_owner : (i : ℕ) → r.map.user_frames ≤ i → r.owners i ≡ 0
-  pub apart : r.map.area_base + 64 ≤ r.map.pool_base
-  pub fits : r.map.pool_base + r.map.user_frames ≤ 2 ^ 22

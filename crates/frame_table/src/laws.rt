@@ -5,11 +5,12 @@ ghost use Rattle.ow_base.specs.Sv32.{WordMap, pages_by};
 ghost use Rattle.sv32_tables.specs.Spaces.{IsMapped, pages_in, satp_of};
 ghost use Rattle.record_layouts.specs.declared.proc.ProcRec.{ProcRec};
 ghost use Rattle.record_layouts.specs.Held.{Records};
+ghost use Rattle.record_layouts.specs.Memory.{AreOfMemory};
 ghost use Rattle.record_layouts.specs.Pages.{frame_of, is_mapped, page_frame_of, page_total, pages_of, table_frame};
 ghost use Rattle.record_layouts.specs.Proc.{FitsProc};
 ghost use Rattle.record_layouts.specs.Sound.{AreMapped, IsIn};
 ghost use Rattle.frame_table.specs.Counts.{pages_held};
-ghost use Rattle.frame_table.specs.Maps.{AreOfMemory, framed_pages, map_of};
+ghost use Rattle.frame_table.specs.Maps.{framed_pages, map_of};
 
 /// No frame is that of two pages, of one process or of two.
 #[tactic(auto, using(crate::proofs::Found::one_page_each, crate::proofs::Found::one_page_in_slots))]

@@ -7,7 +7,7 @@ use Rattle.phys_memory.specs.Memory.{MemoryParts, words_of}
 use Rattle.record_layouts.specs.declared.memory_map.MemoryMap.{MemoryMap}
 pub use Rattle.record_layouts.specs.Halves.{base_of}
 use Rattle.record_layouts.specs.Halves.{half_map}
-use Rattle.record_layouts.specs.Held.{Held, Records, beside}
+use Rattle.record_layouts.specs.Held.{Held, Records, StaysUnstored, beside}
 use Rattle.record_layouts.specs.Overlay.{area_at, gate_of}
 use Rattle.record_layouts.specs.Reading.{records_of}
 use Rattle.record_layouts.specs.declared.intent.Gate.{Gate}
@@ -50,7 +50,7 @@ held_of s = record { records = records_held s; contents = beside (records_held s
 
 -- where no store is made at the end none was made before, and all that is held is as it was
 abbrev pub IsUnstored : (old new : PlantState) → Type 0
-IsUnstored old new = new.stores ≡ 0 → (old.stores ≡ 0) × (held_of new ≡ held_of old)
+IsUnstored old new = StaysUnstored old.stores new.stores (held_of old) (held_of new)
 
 -- what the intent block of the area says
 abbrev pub gate_held : PlantState → Gate

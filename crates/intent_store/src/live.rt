@@ -195,6 +195,7 @@ impl Writer for Live<'_> {
     ghost use Rattle.record_layouts.specs.declared.intent.Gate.TheVariants.{Closed};
     ghost use Rattle.ow_plant.specs.State.{PlantState, is_refused};
     ghost use Rattle.intent_store.specs.Live.{IsStanding, IsUnstored, gate_held, held_of, may_refuse, records_held, rest_of};
+    ghost use Rattle.intent_store.proofs.OfMemory.{of_memory};
 
     ghost Rest = { PlantState };
 
@@ -203,6 +204,12 @@ impl Writer for Live<'_> {
     ghost disk = { λ l. [] };
 
     ghost refused = { λ l. is_refused l.plant.now };
+
+    ghost made = { λ l. l.plant.now.stores };
+
+    ghost may_refuse = { may_refuse };
+
+    ghost of_memory = { λ l stands. of_memory l.plant.now stands.armed };
 
     ghost place = { λ l. l.plant.ghost_name };
 

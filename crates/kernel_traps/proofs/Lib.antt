@@ -13,7 +13,6 @@ pub mod LeftPlans
 pub mod LeftSoundTapes
 pub mod LeftSoundHeld
 pub mod LeftSound
-pub mod OfMemory
 pub mod UnixBy
 pub mod Returning
 pub mod Causes

@@ -18,7 +18,7 @@ use Rattle.intent_store.specs.Live.{records_held}
 use Rattle.ow_plant.specs.Images.{tapes_of}
 use Rattle.kernel_traps.specs.Plants.{IsSound, context_of, unix_at}
 use Rattle.kernel_traps.specs.User.{IsOutside, IsReturned, at_process}
-use Rattle.kernel_traps.proofs.OfMemory.{of_memory}
+use Rattle.intent_store.proofs.OfMemory.{of_memory}
 use Rattle.kernel_traps.proofs.UnixBy.{unix_by, unix_is}
 
 -- the plant with the process in a slot loaded
@@ -82,7 +82,7 @@ returned_unix s slot process sound is in_kernel =
 -- the frames of the area have numbers of 22 bits
 pub area_small : (s : PlantState) (base : ℕ) → IsSound s → base ≡ (records_held s).map.area_base → base + 64 ≤ 2 ^ 22
 area_small s base sound is =
-    let memory = of_memory s sound.held.armed sound.held.shut in
+    let memory = of_memory s sound.held.armed in
     omega (arith, is, memory.apart, memory.fits)
 
 -- the plant is the one with the process loaded, by what the kernel reads

@@ -20,7 +20,8 @@ use Rattle.record_layouts.specs.Sound.{AreInWrites, AreOnTerminals, AreSound, Is
 use Rattle.record_layouts.specs.SoundImages.{IsServedBefore}
 use Rattle.record_layouts.specs.Unix.Turn.{step_of, stepped, turn_at, user_turn}
 use Rattle.record_layouts.specs.Unix.State.{AtUser, Process, Unix}
-use Rattle.frame_table.specs.Maps.{AreOfMemory, map_of as pages_map}
+use Rattle.record_layouts.specs.Memory.{AreOfMemory}
+use Rattle.frame_table.specs.Maps.{map_of as pages_map}
 use Rattle.frame_table.proofs.Counting.{fits_there}
 use Rattle.frame_table.proofs.Found.{frame_found}
 use Rattle.frame_table.proofs.Tables.{map_tells, pages_by_tables, pages_same, tables_mapped}
@@ -35,7 +36,7 @@ use Rattle.kernel_traps.specs.Plants.{IsOfDevice, IsRunning, IsSound, context_of
 use Rattle.kernel_traps.specs.User.{IsInUser, IsStepped, IsTurnOf, IsUserTurn}
 use Rattle.kernel_traps.proofs.Causes.{fault_status}
 use Rattle.kernel_traps.proofs.Isolated.{IsKept, gate_stays, kept_first, sets_kept}
-use Rattle.kernel_traps.proofs.OfMemory.{of_memory}
+use Rattle.intent_store.proofs.OfMemory.{of_memory}
 use Rattle.kernel_traps.proofs.Stepping.{processes_now, stepped_to, unix_with}
 use Rattle.kernel_traps.proofs.UnixBy.{unix_by, unix_is}
 
@@ -63,7 +64,7 @@ module _ (s : PlantState) (sound : IsSound s) (in_user : s.in_user ≡ true) (sl
   fits = fits_there (records_held s) slot its sound.held.records.values runs.there.there
 
   of : AreOfMemory (records_held s) (words_of s.memory)
-  of = of_memory s sound.held.armed sound.held.shut
+  of = of_memory s sound.held.armed
 
   behind : (page : ℕ) (mapping : Mapping) → its_map page ≡ Some mapping → (map_of s).pool_base ≤ mapping.frame
   unfolding records_of records_in

@@ -129,6 +129,10 @@ pub record IsCommittable (r : Records) (items : List PatchItem) : Type 0 where
   pub patch : IsPatch items
   pub sectors : All (λ (item : PatchItem). SectorsAre r.map.sectors item.rec) items
 
+-- where no store is made at the end none was made before, and all that is held is as it was
+abbrev pub StaysUnstored : {Rest : Type 0} → (made_before made : ℕ) → (old new : Held Rest) → Type 0
+StaysUnstored made_before made old new = made ≡ 0 → (made_before ≡ 0) × (new ≡ old)
+
 -- so many words were set before a refusal
 abbrev pub IsPartly : {Rest : Type 0} → (done : (count : ℕ) → Held Rest) → Held Rest → Type 0
 IsPartly done new = (count : ℕ) × (count < 1024) × (new ≡ done count)

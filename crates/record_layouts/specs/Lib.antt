@@ -21,6 +21,7 @@ pub mod Records
 pub mod At
 pub mod Held
 pub mod Pages
+pub mod Memory
 pub mod Decode
 pub mod Sound
 pub mod Left

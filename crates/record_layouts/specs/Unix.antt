@@ -3,6 +3,7 @@
 pub mod State
 pub mod Choice
 pub mod Calls
+pub mod Spaces
 pub mod Signals
 pub mod Turn
 pub mod Traps

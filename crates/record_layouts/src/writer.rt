@@ -10,12 +10,15 @@ use ow_base::Panicked;
 /// Contracts see what is held: the records, the words of all frames beside the area, the disk and a rest, as
 /// `held_by`. A call changes of this what its clauses say and nothing else. `Stands` says that the area is there and
 /// its head decodes; each call that stores needs it and keeps it, at every answer. `Panicked` comes only where a store
-/// was refused: then `refused` holds, and no further call that stores may be made. `place` names what is borrowed, and
-/// never changes.
+/// was refused: then `refused` holds, and no further call that stores may be made. It comes only where `may_refuse` says
+/// so of the rest, which no call changes. `made` counts stores: where none is counted at the end, none was before, and
+/// all that is held is as it was. `of_memory` is a law: the records are of the words of a memory that has the whole area
+/// and all user frames. `place` names what is borrowed, and never changes.
 pub trait Writer: RecordView {
     ghost use Rattle.std.specs.Prelude.{ℕ, Bool, List};
     ghost use Rattle.std.specs.Borrow.{GName};
-    ghost use Rattle.record_layouts.specs.Held.{IsBeside, IsCommittable, IsDirect, IsDirectFrame, IsPartly, copied, held_by, patched, stored, zeroed};
+    ghost use Rattle.record_layouts.specs.Held.{IsBeside, IsCommittable, IsDirect, IsDirectFrame, IsPartly, StaysUnstored, copied, held_by, patched, stored, zeroed};
+    ghost use Rattle.record_layouts.specs.Memory.{AreOfMemory};
 
     ghost Rest: { Type 0 };
 
@@ -24,6 +27,10 @@ pub trait Writer: RecordView {
     ghost disk: { Self → List (List ℕ) };
 
     ghost refused: { Self → Bool };
+
+    ghost made: { Self → ℕ };
+
+    ghost may_refuse: { Rest → Bool };
 
     ghost place: { Self → GName };
 
@@ -47,6 +54,8 @@ pub trait Writer: RecordView {
             ⊎ (held_by Self.records Self.words disk rest self.new ≡ patched patch.now (held_by Self.records Self.words disk rest self.old))) }
         ensures stays { OnOk result (refused self.new ≡ false) }
         ensures cause { OnErr result (refused self.new ≡ true) }
+        ensures unstored { StaysUnstored (made self.old) (made self.new) (held_by Self.records Self.words disk rest self.old) (held_by Self.records Self.words disk rest self.new) }
+        ensures allowed { OnErr result (may_refuse (rest self.old) ≡ true) }
         ensures still_stands { Stands self.new }
         ensures place { place self.new ≡ place self.old };
 
@@ -59,6 +68,8 @@ pub trait Writer: RecordView {
         ensures err { OnErr result (held_by Self.records Self.words disk rest self.new ≡ held_by Self.records Self.words disk rest self.old) }
         ensures stays { OnOk result (refused self.new ≡ false) }
         ensures cause { OnErr result (refused self.new ≡ true) }
+        ensures unstored { StaysUnstored (made self.old) (made self.new) (held_by Self.records Self.words disk rest self.old) (held_by Self.records Self.words disk rest self.new) }
+        ensures allowed { OnErr result (may_refuse (rest self.old) ≡ true) }
         ensures still_stands { Stands self.new }
         ensures place { place self.new ≡ place self.old };
 
@@ -73,6 +84,8 @@ pub trait Writer: RecordView {
         ensures err { OnErr result (IsPartly (copied (held_by Self.records Self.words disk rest self.old) from to) (held_by Self.records Self.words disk rest self.new)) }
         ensures stays { OnOk result (refused self.new ≡ false) }
         ensures cause { OnErr result (refused self.new ≡ true) }
+        ensures unstored { StaysUnstored (made self.old) (made self.new) (held_by Self.records Self.words disk rest self.old) (held_by Self.records Self.words disk rest self.new) }
+        ensures allowed { OnErr result (may_refuse (rest self.old) ≡ true) }
         ensures still_stands { Stands self.new }
         ensures place { place self.new ≡ place self.old };
 
@@ -86,6 +99,10 @@ pub trait Writer: RecordView {
         ensures err { OnErr result (IsPartly (zeroed (held_by Self.records Self.words disk rest self.old) frame) (held_by Self.records Self.words disk rest self.new)) }
         ensures stays { OnOk result (refused self.new ≡ false) }
         ensures cause { OnErr result (refused self.new ≡ true) }
+        ensures unstored { StaysUnstored (made self.old) (made self.new) (held_by Self.records Self.words disk rest self.old) (held_by Self.records Self.words disk rest self.new) }
+        ensures allowed { OnErr result (may_refuse (rest self.old) ≡ true) }
         ensures still_stands { Stands self.new }
         ensures place { place self.new ≡ place self.old };
+
+    ghost of_memory: { (writer : Self) → Stands writer → AreOfMemory (Self.records writer) (Self.words writer) };
 }

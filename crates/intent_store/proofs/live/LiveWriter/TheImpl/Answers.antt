@@ -11,6 +11,8 @@ commit-tells g c = record {
   err = c.ensures.err;
   stays = none_at_ok c.result _ c.ensures.stays;
   cause = some_at_err c.result _ _ c.ensures.cause;
+  unstored = c.ensures.unstored;
+  allowed = c.ensures.allowed;
   still_stands = c.ensures.still_stands;
   place = c.ensures.place;
 }
@@ -24,6 +26,8 @@ direct_word-tells g c = record {
   err = c.ensures.err;
   stays = none_at_ok c.result _ c.ensures.stays;
   cause = some_at_err c.result _ _ c.ensures.cause;
+  unstored = c.ensures.unstored;
+  allowed = c.ensures.allowed;
   still_stands = c.ensures.still_stands;
   place = c.ensures.place;
 }
@@ -37,6 +41,8 @@ copy_frame-tells g c = record {
   err = c.ensures.err;
   stays = none_at_ok c.result _ c.ensures.stays;
   cause = some_at_err c.result _ _ c.ensures.cause;
+  unstored = c.ensures.unstored;
+  allowed = c.ensures.allowed;
   still_stands = c.ensures.still_stands;
   place = c.ensures.place;
 }
@@ -50,6 +56,8 @@ zero_frame-tells g c = record {
   err = c.ensures.err;
   stays = none_at_ok c.result _ c.ensures.stays;
   cause = some_at_err c.result _ _ c.ensures.cause;
+  unstored = c.ensures.unstored;
+  allowed = c.ensures.allowed;
   still_stands = c.ensures.still_stands;
   place = c.ensures.place;
 }

@@ -5,14 +5,13 @@ use Rattle.ow_base.specs.declared.machine.AreaId.{AreaId}
 use Rattle.ow_base.specs.declared.machine.AreaId.TheVariants.{A, B}
 use Rattle.phys_memory.specs.Memory.{words_of}
 use Rattle.phys_memory.proofs.Words.{frame_count-sized, words_of-some}
+use Rattle.record_layouts.specs.Memory.{AreOfMemory}
 use Rattle.record_layouts.specs.Overlay.{area_at, may_change, or_zero}
 use Rattle.record_layouts.specs.Pages.{table_frame}
 use Rattle.record_layouts.specs.Reading.{records_in, records_of}
-use Rattle.record_layouts.specs.declared.intent.Gate.TheVariants.{Closed}
 use Rattle.record_layouts.proofs.Intents.{overlay-beside}
-use Rattle.frame_table.specs.Maps.{AreOfMemory}
 use Rattle.ow_plant.specs.State.{PlantState, IsArmed}
-use Rattle.intent_store.specs.Live.{base_of, gate_held, map_of, records_held}
+use Rattle.intent_store.specs.Live.{base_of, map_of, records_held}
 use Rattle.intent_store.proofs.Holding.{has_area}
 
 -- a word that is there is the word of its area
@@ -31,7 +30,7 @@ users_small B user_frames few = omega arith
 
 module _ (s : PlantState) (armed : IsArmed s) where
   -- the frames of users are whole
-  pub users_whole : (i word : ℕ) → i < s.shape.user_frames → word < 1024 → is_some (words_of s.memory ((map_of s).pool_base + i) word) ≡ true
+  users_whole : (i word : ℕ) → i < s.shape.user_frames → word < 1024 → is_some (words_of s.memory ((map_of s).pool_base + i) word) ≡ true
   users_whole i word below small =
       let count = frame_count-sized s.shape.user_frames s.memory armed.sized in
       let fits = users_fit s.live s.shape.user_frames i below in
@@ -63,9 +62,11 @@ module _ (s : PlantState) (armed : IsArmed s) where
   no_owner i behind = grind (arith, nat_tests)
 
 -- the words of the tables are those of memory, and so are the frames of users
-pub of_memory : (s : PlantState) → IsArmed s → gate_held s ≡ Closed → AreOfMemory (records_held s) (words_of s.memory)
+pub of_memory : (s : PlantState) → IsArmed s → AreOfMemory (records_held s) (words_of s.memory)
 unfolding records_of records_in
-of_memory s armed shut = record {
+of_memory s armed = record {
+  area = has_area s armed;
+  few = armed.few_frames;
   tables = tables_there s armed;
   whole = users_whole s armed;
   no_owner = no_owner s armed;
