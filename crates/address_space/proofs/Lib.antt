@@ -6,3 +6,4 @@ pub mod Outcomes
 pub mod Prepared
 pub mod DirectWords
 pub mod PagesPrepared
+pub mod BareTables

@@ -171,7 +171,7 @@ fn clear_table<W: Writer>(live: &mut W, slot: u32, table: u32) -> Result<(), Pan
     requires stands { W.Stands live.old }
     requires slot { slot < 16 }
     requires table { table < 3 }
-    requires open { live_one ((W.records live.old).procs slot) ≡ None }
+    requires unused { live_one ((W.records live.old).procs slot) ≡ None }
     ensures ok { OnOk result (AreWordsBare (held_by W.records W.words W.disk W.rest live.old) (held_by W.records W.words W.disk W.rest live.new) slot (1024 * table) 1024) }
     ensures err { OnErr result (AreFirstBare (held_by W.records W.words W.disk W.rest live.old) (held_by W.records W.words W.disk W.rest live.new) slot (1024 * table)) }
     ensures prepares { OnlyPrepares slot (held_by W.records W.words W.disk W.rest live.old) (held_by W.records W.words W.disk W.rest live.new) }
@@ -196,7 +196,7 @@ fn clear_word<W: Writer>(live: &mut W, slot: u32, table: u32, word: u32) -> Resu
     requires slot { slot < 16 }
     requires table { table < 3 }
     requires word { word < 1024 }
-    requires open { live_one ((W.records live.old).procs slot) ≡ None }
+    requires unused { live_one ((W.records live.old).procs slot) ≡ None }
     ensures ok { OnOk result (AreWordsBare (held_by W.records W.words W.disk W.rest live.old) (held_by W.records W.words W.disk W.rest live.new) slot (1024 * table + word) 1) }
     ensures err { OnErr result (held_by W.records W.words W.disk W.rest live.new ≡ held_by W.records W.words W.disk W.rest live.old) }
     ensures prepares { OnlyPrepares slot (held_by W.records W.words W.disk W.rest live.old) (held_by W.records W.words W.disk W.rest live.new) }
