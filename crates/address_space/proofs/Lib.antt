@@ -1,4 +1,9 @@
--- The lemmas of the crate: ranges of bytes of which each is tested, and the bytes that are read.
+-- The lemmas of the crate: ranges of bytes of which each is tested, the bytes that are read, what holds of an answer, and
+-- pages that are prepared.
 pub mod Tested
-pub mod Prepared
 pub mod Reading
+pub mod Outcomes
+pub mod Prepared
+pub mod DirectWords
+pub mod PagesPrepared
+pub mod BareTables
