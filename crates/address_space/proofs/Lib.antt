@@ -7,3 +7,4 @@ pub mod Prepared
 pub mod DirectWords
 pub mod PagesPrepared
 pub mod BareTables
+pub mod Growing

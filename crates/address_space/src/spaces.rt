@@ -39,9 +39,9 @@ pub fn grow<W: Writer>(live: &mut W, slot: u32, count: u32) -> Result<(), Panick
     let first = heap_end(&process);
     let user_frames = live.user_frames();
     let mut from = 0;
-    for page in first..first + count {
+    for done in 0..count {
         let number = next_free(live, user_frames, from).unwrap();
-        prepare_page(live, slot, page, Rights::Values, None, number)?;
+        prepare_page(live, slot, first + done, Rights::Values, None, number)?;
         from = number + 1;
     }
     Ok(())
