@@ -1,5 +1,3 @@
-use Rattle.std.proofs.Common.{◌≡◌, Some, IfSome, subst}
-use Rattle.address_space.specs.Preparing.{IsUserFrame}
 use Rattle.address_space.proofs.DirectWords.{user_beside}
 use Rattle.address_space.proofs.preparing.fill_frame.Goals as goal
 
