@@ -4,6 +4,6 @@ pub mod Tested
 pub mod Reading
 pub mod Outcomes
 pub mod Prepared
-pub mod DirectWords
+pub mod UserFrames
 pub mod PagesPrepared
 pub mod BareTables

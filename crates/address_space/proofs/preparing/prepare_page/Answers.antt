@@ -2,7 +2,7 @@ use Rattle.std.proofs.Common.{sym, ap, ◌∙◌, subst}
 use Rattle.record_layouts.specs.Held.{Held, held_by}
 use Rattle.address_space.specs.Preparing.{IsPageBegun}
 use Rattle.address_space.specs.Spaces.{OnlyPrepares}
-use Rattle.address_space.proofs.DirectWords.{user_apart}
+use Rattle.address_space.proofs.UserFrames.{user_apart}
 use Rattle.address_space.proofs.Outcomes.{at_err, either_way, on_err, on_ok}
 use Rattle.address_space.proofs.PagesPrepared.{filled_begun, filled_prepares, first_prepares, page_prepared, second_begun, second_prepares, still_within, third_prepares}
 use Rattle.address_space.proofs.preparing.prepare_page.Goals as goal
