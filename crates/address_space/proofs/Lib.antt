@@ -6,7 +6,7 @@ pub mod Bytes
 pub mod Stored
 pub mod Outcomes
 pub mod Prepared
-pub mod DirectWords
+pub mod UserFrames
 pub mod PagesPrepared
 pub mod BareTables
 pub mod Growing

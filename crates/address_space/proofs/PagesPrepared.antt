@@ -1,5 +1,5 @@
 -- A page is prepared by three steps: the words of its frame are set, the frame is claimed for the page, and the entry is stored.
-use Rattle.std.proofs.Common.{◌≡◌, ◌≢◌, ℕ, ◌+◌, ◌-◌, ◌*◌, ◌/◌, ◌%◌, ◌^◌, ◌<◌, ◌≤◌, ◌⊎◌, Bool, true, false, nat_lt, not, ◌==◌, ◌&&◌, ◌||◌, if◌then◌else◌, Option, Some, None, is_some, refl, sym, ap, ◌∙◌, inl, inr, arith, subst}
+use Rattle.std.proofs.Common.{◌≡◌, ◌≢◌, ℕ, ◌+◌, ◌-◌, ◌*◌, ◌/◌, ◌%◌, ◌^◌, ◌<◌, ◌≤◌, ◌⊎◌, Bool, true, false, nat_lt, ◌==◌, ◌&&◌, if◌then◌else◌, Option, Some, None, is_some, refl, sym, ap, ◌∙◌, inl, inr, arith}
 use Rattle.std.proofs.Math.Path.{fun_ext}
 use Rattle.std.proofs.lemmas.Bool.{cases_Bool, cases_eq}
 use Rattle.std.proofs.lemmas.Bool.Decides.{nat_tests}
@@ -11,7 +11,7 @@ use Rattle.record_layouts.specs.declared.proc.ProcRec.{ProcRec}
 use Rattle.record_layouts.specs.Held.{Held, Records, is_of_area, stored}
 use Rattle.record_layouts.specs.Pages.{claim_of, is_live, region_of, table_frame}
 use Rattle.record_layouts.specs.Sound.{is_table_place}
-use Rattle.frame_table.specs.Free.{ClaimsNone, KeepsFrames, KeepsPages, is_free_frame, is_page_of, is_table_word_of}
+use Rattle.frame_table.specs.Free.{ClaimsNone, is_free_frame, is_page_of, is_table_word_of}
 use Rattle.frame_table.proofs.Found.{one_claim}
 use Rattle.frame_table.proofs.Kept.{beside_words, frame_words, owner_stored, owner_words, table_stored, table_words}
 use Rattle.address_space.specs.Preparing.{CanPrepare, IsPageBegun, IsPagePrepared, filled, table_of, word_from}
@@ -88,9 +88,12 @@ module _ {Rest : Type 0} (h new : Held Rest) (number claim : ℕ) (within : numb
 
   is_claim : new ≡ with_claim
   is_claim = is ∙ owner_words h (λ w. w == number) (λ w. claim)
-      ∙ ap (λ (cache : ℕ → ℕ). record h { records = record h.records {
+      ∙ ap (λ (cache : ℕ → ℕ). record h {
+        records = record h.records {
           owners = λ i. if nat_lt i h.records.map.user_frames && i == number then claim else h.records.owners i;
-          cache_owners = cache } }) cache_same
+          cache_owners = cache;
+        };
+      }) cache_same
 
   pub claimed_is : IsClaimed h new number claim
   claimed_is = rw is_claim (record {
@@ -126,9 +129,13 @@ pub record IsEntered {Rest : Type 0} (h new : Held Rest) (slot table word value 
 module _ {Rest : Type 0} (h new : Held Rest) (slot table word value : ℕ) (within : slot < 16) (third : table < 3) (small : word < 1024)
     (is : new ≡ stored h (h.records.map.area_base + table_frame slot table) word value) where
   abbrev with_entry : Held Rest
-  with_entry = record h { records = record h.records { table_words = λ other its place.
-      if nat_lt its 3 && nat_lt place 1024 && 16 + 3 * other + its == table_frame slot table && place == word then value
-      else h.records.table_words other its place } }
+  with_entry = record h {
+    records = record h.records {
+      table_words = λ other its place.
+          if nat_lt its 3 && nat_lt place 1024 && 16 + 3 * other + its == table_frame slot table && place == word then value
+          else h.records.table_words other its place;
+    };
+  }
 
   is_entry : new ≡ with_entry
   is_entry = is ∙ table_words h slot table (λ w. w == word) (λ w. value) within third

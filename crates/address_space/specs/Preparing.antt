@@ -1,5 +1,5 @@
 -- One page that is prepared, and the tables of a slot before any is.
-use Rattle.std.specs.Prelude.{◌≡◌, ◌≢◌, ℕ, ◌+◌, ◌-◌, ◌*◌, ◌/◌, ◌%◌, ◌^◌, ◌<◌, ◌≤◌, ◌⊎◌, Bool, true, false, nat_lt, ◌==◌, ◌&&◌, if◌then◌else◌, Option, Some, None}
+use Rattle.std.specs.Prelude.{◌≡◌, ◌≢◌, ℕ, ◌+◌, ◌*◌, ◌/◌, ◌%◌, ◌<◌, ◌≤◌, ◌⊎◌, true, false, nat_lt, ◌==◌, ◌&&◌, if◌then◌else◌, Option, Some, None}
 use Rattle.ow_base.specs.Entries.{leaf_word, pointer_word}
 use Rattle.ow_base.specs.Sv32.{WordMap, word_or_zero}
 use Rattle.ow_base.specs.declared.machine.Rights.{Rights}

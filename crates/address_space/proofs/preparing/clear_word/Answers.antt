@@ -1,4 +1,4 @@
-use Rattle.std.proofs.Common.{◌≡◌, sym, subst}
+use Rattle.std.proofs.Common.{sym, subst}
 use Rattle.record_layouts.specs.Held.{Held, held_by}
 use Rattle.address_space.specs.Spaces.{OnlyPrepares}
 use Rattle.address_space.proofs.BareTables.{bare_prepares, word_bare}

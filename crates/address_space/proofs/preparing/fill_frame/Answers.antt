@@ -1,6 +1,4 @@
-use Rattle.std.proofs.Common.{◌≡◌, Some, IfSome, subst}
-use Rattle.address_space.specs.Preparing.{IsUserFrame}
-use Rattle.address_space.proofs.DirectWords.{user_beside}
+use Rattle.address_space.proofs.UserFrames.{user_beside}
 use Rattle.address_space.proofs.preparing.fill_frame.Goals as goal
 
 pub copy_frame-requires-clause-from : goal.copy_frame-requires-clause-from

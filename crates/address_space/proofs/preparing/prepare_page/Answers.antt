@@ -1,9 +1,8 @@
-use Rattle.std.proofs.Common.{◌≡◌, true, sym, ap, ◌∙◌, subst}
-use Rattle.record_layouts.specs.Held.{Held, Records, held_by}
-use Rattle.record_layouts.specs.Pages.{claim_of}
+use Rattle.std.proofs.Common.{sym, ap, ◌∙◌, subst}
+use Rattle.record_layouts.specs.Held.{Held, held_by}
 use Rattle.address_space.specs.Preparing.{IsPageBegun}
 use Rattle.address_space.specs.Spaces.{OnlyPrepares}
-use Rattle.address_space.proofs.DirectWords.{user_apart}
+use Rattle.address_space.proofs.UserFrames.{user_apart}
 use Rattle.address_space.proofs.Outcomes.{at_err, either_way, on_err, on_ok}
 use Rattle.address_space.proofs.PagesPrepared.{filled_begun, filled_prepares, first_prepares, page_prepared, second_begun, second_prepares, still_within, third_prepares}
 use Rattle.address_space.proofs.preparing.prepare_page.Goals as goal
@@ -54,7 +53,7 @@ returns-in_err-claim_frame-clause-allowed g c =
     let held = held_by g.W.RecordView.records g.W.WordSource.words g.W.Writer.disk g.W.Writer.rest in
     let of = g.met.W.Writer.of_memory c.args.live.now c.requires.stands in
     let one = first_prepares (held c.args.live.now) (held c.fill_frame.new.live) c.args.slot c.args.page c.args.number c.args.source c.requires.can of.few
-        (user_apart _ _ of c.args.number) c.in_ok-fill_frame.ensures.ok in
+    (user_apart _ _ of c.args.number) c.in_ok-fill_frame.ensures.ok in
     at_err c.from_residual-in_err-claim_frame.result _ (ap g.W.Writer.may_refuse (sym one.rest) ∙ c.in_err-claim_frame.ensures.allowed)
 
 pub enter_page-requires-clause-within : goal.enter_page-requires-clause-within
@@ -62,7 +61,7 @@ enter_page-requires-clause-within g c =
     let held = held_by g.W.RecordView.records g.W.WordSource.words g.W.Writer.disk g.W.Writer.rest in
     let of = g.met.W.Writer.of_memory c.args.live.now c.requires.stands in
     let two = second_prepares (held c.args.live.now) (held c.fill_frame.new.live) c.args.slot c.args.page c.args.number c.args.source c.requires.can of.few
-        (user_apart _ _ of c.args.number) c.in_ok-fill_frame.ensures.ok (held c.claim_frame.new.live) c.in_ok-claim_frame.ensures.ok in
+    (user_apart _ _ of c.args.number) c.in_ok-fill_frame.ensures.ok (held c.claim_frame.new.live) c.in_ok-claim_frame.ensures.ok in
     rw two.pages.records.map c.requires.can.within
 
 pub returns-clause-ok : goal.returns-clause-ok
@@ -106,5 +105,5 @@ returns-clause-allowed g c =
     let held = held_by g.W.RecordView.records g.W.WordSource.words g.W.Writer.disk g.W.Writer.rest in
     let of = g.met.W.Writer.of_memory c.args.live.now c.requires.stands in
     let two = second_prepares (held c.args.live.now) (held c.fill_frame.new.live) c.args.slot c.args.page c.args.number c.args.source c.requires.can of.few
-        (user_apart _ _ of c.args.number) c.in_ok-fill_frame.ensures.ok (held c.claim_frame.new.live) c.in_ok-claim_frame.ensures.ok in
+    (user_apart _ _ of c.args.number) c.in_ok-fill_frame.ensures.ok (held c.claim_frame.new.live) c.in_ok-claim_frame.ensures.ok in
     on_err c.enter_page.result _ _ (λ may. ap g.W.Writer.may_refuse (sym two.rest) ∙ may) c.enter_page.ensures.allowed
