@@ -2,3 +2,4 @@
 pub mod Tested
 pub mod Prepared
 pub mod Reading
+pub mod Copying
