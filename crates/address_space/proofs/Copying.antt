@@ -287,3 +287,265 @@ module _ {Rest : Type 0} (h mid new : Held Rest) (from to : ℕ) (process : Proc
       ];
       empty = still_empty;
     }
+
+-- where copying begins, and where it goes on
+
+bare_else : (area slot table word : ℕ) → 1 ≤ table → bare_word area slot table word ≡ 0
+bare_else area slot table word one = let other : (table == 0) ≡ false = grind (arith, nat_tests) in rw other refl
+
+pub none_copied : {Rest : Type 0} (h new : Held Rest) (from to : ℕ) (process : ProcRec) → AreTablesBare h new to → OnlyPrepares to h new
+    → ArePagesCopied h new from to process 0 16
+none_copied h new from to process bare only = record {
+  prepares = only;
+  root = λ word small. bare.bare 0 word (omega arith) small;
+  pages = λ page rights below held.
+      let none = region_none process page (inl below) (inl (omega (arith, below))) in absurd (cc (none, held));
+  empty = λ table word one few small beyond. bare.bare table word few small ∙ bare_else h.records.map.area_base to table word one;
+}
+
+-- between two pages there is none of the process
+pub copied_up : {Rest : Type 0} (h new : Held Rest) (from to : ℕ) (process : ProcRec) (next below more : ℕ) → below ≤ more
+    → ((page : ℕ) → below ≤ page → page < more → region_of process page ≡ None)
+    → ArePagesCopied h new from to process next below → ArePagesCopied h new from to process next more
+copied_up h new from to process next below more upto between are = record {
+  prepares = are.prepares;
+  root = are.root;
+  pages = λ page rights less held. elim (cases_lt page below) [
+    | inl earlier ↦ are.pages page rights earlier held
+    | inr later ↦ let none = between page later less in absurd (cc (none, held))
+  ];
+  empty = λ table word one few small beyond. are.empty table word one few small (elim beyond [
+    | inl high ↦ inl (omega (arith, high, upto))
+    | inr none ↦ inr none
+  ]);
+}
+
+-- what the pages of a child are then
+
+grown_same : (process child : ProcRec) → HasGrown process 0 child → heap_pages child ≡ heap_pages process
+grown_same process child grown = let heap = grown.heap in omega (arith, heap)
+
+region_same : (process child : ProcRec) (page : ℕ) → is_live process ≡ true → HasGrown process 0 child → region_of child page ≡ region_of process page
+unfolding region_of
+region_same process child page live grown = let heap = grown_same process child grown in rw (grown.live, live, grown.code, grown.values, heap) refl
+
+byte_from : (words : WordMap) (offset : ℕ) (source : Option ℕ) → byte_of (word_from words source (offset / 4)) (offset % 4) ≡ byte_on words offset source
+byte_from words offset (Some frame) = refl
+byte_from words offset None = grind arith
+
+root_else : (child : ProcRec) (area slot word : ℕ) → is_table_place child 0 word ≡ false → bare_word area slot 0 word ≡ 0
+root_else child area slot word unused = grind (arith, nat_tests, unused)
+
+unheld_place : (child : ProcRec) (table word : ℕ) → 1 ≤ table → table < 3 → is_table_place child table word ≡ false → region_of child (page_at table word) ≡ None
+unheld_place child table word one few unused = elim (cases_eq table 1) [
+  | inl low ↦ rw low (let none : is_some (region_of child word) ≡ false = grind (arith, nat_tests, unused, low) in none_of (region_of child word) none)
+  | inr other ↦
+      let high : table ≡ 2 = omega (arith, one, few, other) in
+      rw high (let none : is_some (region_of child (1024 * 511 + word)) ≡ false = grind (arith, nat_tests, unused, high) in none_of (region_of child (1024 * 511 + word)) none)
+]
+
+module _ {Rest : Type 0} (h new : Held Rest) (from to : ℕ) (process : ProcRec) (next below : ℕ) (are : ArePagesCopied h new from to process next below)
+    (fits : FitsProc process) (live : is_live process ≡ true) where
+  area : new.records.map.area_base ≡ h.records.map.area_base
+  area = ap (λ (map : MemoryMap). map.area_base) are.prepares.pages.records.map
+
+  pool : new.records.map.pool_base ≡ h.records.map.pool_base
+  pool = ap (λ (map : MemoryMap). map.pool_base) are.prepares.pages.records.map
+
+  low_linked : is_linked new.records to 1 0 ≡ true
+  low_linked = let root = are.root 0 (omega arith) in rw (root, area) (grind (arith, nat_tests))
+
+  high_linked : is_linked new.records to 2 511 ≡ true
+  high_linked = let root = are.root 511 (omega arith) in rw (root, area) (grind (arith, nat_tests))
+
+  module _ (child : ProcRec) (grown : HasGrown process 0 child) where
+    same : (page : ℕ) → region_of child page ≡ region_of process page
+    same page = region_same process child page live grown
+
+    copy_found : (page : ℕ) (rights : Rights) → region_of process page ≡ Some rights → (copied : IsPageCopied h new from to process next page rights)
+        → frame_of new.records to child page ≡ Some (h.records.map.pool_base + copied.number)
+    copy_found page rights held copied =
+        let frame = h.records.map.pool_base + copied.number in
+        let entry = entry_there new.records to page (leaf_word frame rights) low_linked high_linked (held_placed process page rights fits held).0 copied.entry in
+        let number : frame - new.records.map.pool_base ≡ copied.number = rw pool (omega arith) in
+        frame_there new.records to page frame child rights entry (same page ∙ held) (omega (arith, pool)) (rw number copied.owner)
+
+    framed : (page : ℕ) → page < below → is_some (region_of process page) ≡ true → (frame : ℕ) × (frame_of new.records to child page ≡ Some frame)
+    framed page less is =
+        let one = held_one (region_of process page) is in
+        let copied = are.pages page one.0 less one.1 in
+        (h.records.map.pool_base + copied.number, copy_found page one.0 one.1 copied)
+
+    copied_byte : (page offset : ℕ) (rights : Rights) → offset < 4096 → region_of process page ≡ Some rights → IsPageCopied h new from to process next page rights
+        → byte_on new.contents offset (frame_of new.records to child page) ≡ byte_on h.contents offset (frame_of h.records from process page)
+    copied_byte page offset rights small held copied =
+        ap (byte_on new.contents offset) (copy_found page rights held copied)
+        ∙ ap (λ word. byte_of word (offset % 4)) (copied.words (offset / 4) (omega (arith, small)))
+        ∙ byte_from h.contents offset (frame_of h.records from process page)
+
+    byte_by : (page offset : ℕ) (rights : Option Rights) → offset < 4096 → region_of process page ≡ rights → (page < below) ⊎ (region_of process page ≡ None)
+        → byte_on new.contents offset (frame_of new.records to child page) ≡ byte_on h.contents offset (frame_of h.records from process page)
+    byte_by page offset (Some rights) small held (inl less) = copied_byte page offset rights small held (are.pages page rights less held)
+    byte_by page offset (Some rights) small held (inr none) = absurd (cc (none, held))
+    byte_by page offset None small none beyond =
+        rw (no_frame new.records to page child (same page ∙ none), no_frame h.records from page process none) refl
+
+    byte_same : (a : ℕ) → (a / 4096 < below) ⊎ (region_of process (a / 4096) ≡ None)
+        → (pages_of new.records new.contents to child).bytes a ≡ (pages_of h.records h.contents from process).bytes a
+    unfolding pages_of
+    byte_same a beyond = byte_by (a / 4096) (a % 4096) (region_of process (a / 4096)) (omega arith) refl beyond
+
+    module _ (all : (page : ℕ) → (page < below) ⊎ (region_of process page ≡ None)) where
+      all_same : pages_of new.records new.contents to child ≡ pages_of h.records h.contents from process
+      unfolding pages_of
+      all_same = pages_ext _ _ same (λ a. byte_same a (all (a / 4096)))
+
+      there : (page : ℕ) → is_some (region_of child page) ≡ true → is_some (frame_of new.records to child page) ≡ true
+      there page is =
+          let held : is_some (region_of process page) ≡ true = ap is_some (sym (same page)) ∙ is in
+          elim (all page) [
+            | inl less ↦ ap is_some (framed page less held).1
+            | inr none ↦ absurd (cc (none, held))
+          ]
+
+      all_mapped : is_mapped new.records to child ≡ true
+      unfolding is_mapped
+      all_mapped =
+          let front = have_all new.records to child 16 (child.code_pages + (child.data_pages + heap_pages child)) (values_end child) refl
+          (λ page up less. there page (region_there child page grown.live (inl (up, less)))) in
+          let stack = have_all new.records to child 0x7fffc 4 0x80000 refl
+          (λ page up less. there page (region_there child page grown.live (inr (up, less)))) in
+          rw (low_linked, high_linked, front, stack) refl
+
+    all_clean : (table word : ℕ) → table < 3 → word < 1024 → is_table_place child table word ≡ false → new.records.table_words to table word ≡ 0
+    all_clean table word few small unused = elim (cases_eq table 0) [
+      | inl root ↦
+          let none : is_table_place child 0 word ≡ false = rw root at unused in
+          rw root (are.root word small ∙ root_else child h.records.map.area_base to word none)
+      | inr other ↦
+          let one : 1 ≤ table = omega (arith, other) in
+          are.empty table word one few small (inr (sym (same (page_at table word)) ∙ unheld_place child table word one few unused))
+    ]
+
+  pub below_is_copied : IsCopiedBelow h new from to below process
+  below_is_copied = record {
+    frames = λ child grown page less is. framed child grown page less is;
+    bytes = λ child grown a less. byte_same child grown a (inl less);
+    tables = λ table word one few small high. inl (are.empty table word one few small (inl high));
+  }
+
+  pub all_is_copied : ((page : ℕ) → (page < below) ⊎ (region_of process page ≡ None)) → IsCopied h new from to process
+  all_is_copied all = record {
+    pages = λ child grown. all_same child grown all;
+    mapped = λ child grown. all_mapped child grown all;
+    clean = λ child grown table word few small unused. all_clean child grown table word few small unused;
+  }
+
+bare_partly : {Rest : Type 0} (h new : Held Rest) (from to : ℕ) (process : ProcRec) → AreTablesPartlyBare h new to → IsPartlyCopied h new from to process
+bare_partly h new from to process bare = (0, record {
+  frames = λ child grown page less is. absurd (omega (arith, less));
+  bytes = λ child grown a less. absurd (omega (arith, less));
+  tables = λ table word one few small high. elim (bare.words table word few small) [
+    | inl is ↦ inl (is ∙ bare_else h.records.map.area_base to table word one)
+    | inr kept ↦ inr kept
+  ];
+})
+
+-- the regions from end to end
+
+pub all_below : (process : ProcRec) → FitsProc process → is_live process ≡ true → (page : ℕ) → (page < 0x80000) ⊎ (region_of process page ≡ None)
+all_below process fits live page =
+    let low = low_end process fits live in
+    elim (cases_lt page 0x80000) [
+      | inl less ↦ inl less
+      | inr behind ↦ inr (region_none process page (inr (omega (arith, low, behind))) (inr behind))
+    ]
+
+-- what is asked of the process that goes on holds of it
+live_can : (held : Option ProcRec) (process : ProcRec) (Can : ProcRec → Type 0) → held ≡ Some process → is_some (live_one held) ≡ true → IfSome (live_one held) Can → Can process
+live_can held process Can there goes can =
+    let some : is_some (live_one (Some process)) ≡ true = rw there at goes in
+    let if_some : IfSome (live_one (Some process)) Can = rw there at can in
+    elim (cases_Bool (is_live process)) [
+      | inl live ↦ rw live at if_some
+      | inr dead ↦ grind (arith, dead, some)
+    ]
+
+all_pages : (process : ProcRec) → is_live process ≡ true → page_total process ≡ heap_end process - 16 + 4
+unfolding page_total
+all_pages process live = rw live (omega arith)
+
+any_process : (held : Option ProcRec) (Holds : ProcRec → Type 0) → ((process : ProcRec) → Holds process) → IfSome held Holds
+any_process (Some process) Holds each = each process
+any_process None Holds each = tt
+
+at_entry : (held : Option ProcRec) (process : ProcRec) (Holds : ProcRec → Type 0) → held ≡ Some process → Holds process → IfSome held Holds
+at_entry held process Holds there holds = rw there holds
+
+-- the two ranges of a process, once the tables of the other slot are bare
+module _ {Rest : Type 0} (h mid : Held Rest) (from to end : ℕ) (process : ProcRec) (only : OnlyPrepares to h mid) (there : mid.records.procs from ≡ Some process)
+    (goes : is_some (live_one (h.records.procs from)) ≡ true) (can : IfSome (live_one (h.records.procs from)) (CanCopy h.records from to))
+    (front : end ≡ heap_end process) where
+  keeps : KeepsFrames h.records mid.records
+  keeps = only.pages.records
+
+  at_first : h.records.procs from ≡ Some process
+  at_first = sym (keeps.procs from) ∙ there
+
+  can_copy : CanCopy h.records from to process
+  can_copy = live_can (h.records.procs from) process (CanCopy h.records from to) at_first goes can
+
+  room : free_before mid.records 0 + (end - 16) + 4 ≤ free_before mid.records mid.records.map.user_frames
+  room =
+      let all = all_pages process can_copy.live in
+      let free : free_before mid.records mid.records.map.user_frames ≡ free_before h.records h.records.map.user_frames =
+      before_kept h.records mid.records mid.records.map.user_frames keeps
+      ∙ ap (λ (map : MemoryMap). free_before h.records map.user_frames) keeps.map in
+      omega (arith, all, free, can_copy.frames, before_zero mid.records, front)
+
+  pub room_of_front : free_before mid.records 0 + (end - 16) ≤ free_before mid.records mid.records.map.user_frames
+  room_of_front = omega (arith, room)
+
+  pub held_in_front : (page : ℕ) → 16 ≤ page → page < end → is_some (region_of process page) ≡ true
+  held_in_front page up less = region_there process page can_copy.live (inl (up, omega (arith, less, front)))
+
+  pub held_in_stack : (page : ℕ) → 0x7fffc ≤ page → page < 0x80000 → is_some (region_of process page) ≡ true
+  held_in_stack page up less = region_there process page can_copy.live (inr (up, less))
+
+  module _ (bare : AreTablesBare h mid to) (fits : FitsProc process) where
+    begun : ArePagesCopied h mid from to process 0 16
+    begun = none_copied h mid from to process bare only
+
+    pub partly_in_front : (new : Held Rest) → IsRangePartlyCopied mid new from to process 0 16 → IfSome (h.records.procs from) (IsPartlyCopied h new from to)
+    partly_in_front new (next, below, on) =
+        at_entry (h.records.procs from) process (IsPartlyCopied h new from to) at_first
+        (below, below_is_copied h new from to process next below (on h begun) fits can_copy.live)
+
+    module _ (between : Held Rest) (next : ℕ) (first : IsRangeCopied mid between from to process 0 16 end next) (then_keeps : OnlyPrepares to mid between) where
+      pub room_of_stack : free_before between.records next + 4 ≤ free_before between.records between.records.map.user_frames
+      room_of_stack =
+          let its = then_keeps.pages.records in
+          let free : free_before between.records between.records.map.user_frames ≡ free_before mid.records mid.records.map.user_frames =
+          before_kept mid.records between.records between.records.map.user_frames its
+          ∙ ap (λ (map : MemoryMap). free_before mid.records map.user_frames) its.map in
+          omega (arith, room, free, before_kept mid.records between.records next its, first.counted)
+
+      front_copied : ArePagesCopied h between from to process next 0x7fffc
+      front_copied =
+          let low = low_end process fits can_copy.live in
+          copied_up h between from to process next end 0x7fffc (omega (arith, low, front))
+          (λ page up less. region_none process page (inr (omega (arith, up, front))) (inl less)) (first.on h begun)
+
+      pub partly_in_stack : (new : Held Rest) → IsRangePartlyCopied between new from to process next 0x7fffc → IfSome (h.records.procs from) (IsPartlyCopied h new from to)
+      partly_in_stack new (last, below, on) =
+          at_entry (h.records.procs from) process (IsPartlyCopied h new from to) at_first
+          (below, below_is_copied h new from to process last below (on h front_copied) fits can_copy.live)
+
+      pub whole_process : (new : Held Rest) (last : ℕ) → IsRangeCopied between new from to process next 0x7fffc 0x80000 last → IfSome (h.records.procs from) (IsCopied h new from to)
+      whole_process new last second =
+          at_entry (h.records.procs from) process (IsCopied h new from to) at_first
+          (all_is_copied h new from to process last 0x80000 (second.on h front_copied) fits can_copy.live (all_below process fits can_copy.live))
+
+-- where the tables were not made bare no page is copied
+pub partly_bare : {Rest : Type 0} (h new : Held Rest) (from to : ℕ) → AreTablesPartlyBare h new to → IfSome (h.records.procs from) (IsPartlyCopied h new from to)
+partly_bare h new from to bare = any_process (h.records.procs from) (IsPartlyCopied h new from to) (λ process. bare_partly h new from to process bare)
