@@ -1,8 +1,8 @@
 -- Pages that are copied for another slot, one after the other.
-use Rattle.std.proofs.Common.{◌≡◌, ◌≢◌, ℕ, zero, suc, ◌+◌, ◌-◌, ◌*◌, ◌/◌, ◌%◌, ◌^◌, ◌<◌, ◌≤◌, ◌⊎◌, Bool, true, false, nat_lt, not, ◌==◌, ◌&&◌, ◌||◌, if◌then◌else◌, Option, Some, None, IfSome, IfNone, is_some, Result, Ok, Err, OnErr, refl, sym, ap, ◌∙◌, inl, inr, arith}
+use Rattle.std.proofs.Common.{◌≡◌, ◌≢◌, ℕ, ◌+◌, ◌-◌, ◌*◌, ◌/◌, ◌%◌, ◌^◌, ◌<◌, ◌≤◌, ◌⊎◌, Bool, true, false, ◌==◌, ◌&&◌, Option, Some, None, IfSome, IfNone, is_some, Result, Ok, Err, OnErr, refl, sym, ap, ◌∙◌, inl, inr, arith}
 use Rattle.std.proofs.lemmas.Bool.{cases_Bool, cases_eq, cases_lt}
 use Rattle.std.proofs.lemmas.Bool.Decides.{nat_tests}
-use Rattle.ow_base.specs.Entries.{leaf_word, pointer_word}
+use Rattle.ow_base.specs.Entries.{leaf_word}
 use Rattle.ow_base.specs.Sv32.{WordMap, byte_of, word_or_zero}
 use Rattle.ow_base.specs.declared.machine.Rights.{Rights}
 use Rattle.ow_base.specs.declared.machine.Rights.TheVariants.{Code, Values}
@@ -12,16 +12,16 @@ use Rattle.record_layouts.specs.declared.proc.ProcRec.{ProcRec}
 use Rattle.record_layouts.specs.Held.{Held, Records, StaysUnstored}
 use Rattle.record_layouts.specs.Least.{IsLeast, NonePasses}
 use Rattle.record_layouts.specs.Memory.{AreOfMemory}
-use Rattle.record_layouts.specs.Pages.{byte_on, claim_of, entry_for, frame_by, frame_of, have_frames, heap_pages, is_linked, is_live, is_mapped, leaf_frame, live_one, owned, page_frame_of, page_total, pages_of, region_of, table_frame}
+use Rattle.record_layouts.specs.Pages.{byte_on, claim_of, entry_for, frame_by, frame_of, heap_pages, is_linked, is_live, is_mapped, leaf_frame, live_one, owned, page_frame_of, page_total, pages_of, region_of}
 use Rattle.record_layouts.specs.Proc.{FitsProc}
 use Rattle.record_layouts.specs.Sound.{is_table_place}
 use Rattle.record_layouts.proofs.Frames.{have_all}
-use Rattle.frame_table.specs.Free.{KeepsFrames, KeepsPages, free_before, is_free_frame, is_page_of}
+use Rattle.frame_table.specs.Free.{KeepsFrames, free_before, is_free_frame, is_page_of}
 use Rattle.frame_table.proofs.Counting.{in_or_out, low_end, region_dead, region_none, region_there, values_end}
-use Rattle.frame_table.proofs.Found.{IsFrameOf, frame_found}
+use Rattle.frame_table.proofs.Found.{frame_found}
 use Rattle.frame_table.proofs.Free.{before_same, before_zero, counted_on, none_behind}
 use Rattle.frame_table.proofs.Kept.{before_kept, free_same}
-use Rattle.address_space.specs.Copying.{AreCopiedOn, ArePagesCopied, IsPageCopied, IsRangeCopied, IsRangePartlyCopied}
+use Rattle.address_space.specs.Copying.{ArePagesCopied, IsPageCopied, IsRangeCopied, IsRangePartlyCopied}
 use Rattle.address_space.specs.Preparing.{AreTablesBare, AreTablesPartlyBare, CanPrepare, IsPageBegun, IsPagePrepared, IsUserFrame, bare_word, table_of, word_from}
 use Rattle.address_space.specs.Spaces.{CanCopy, HasGrown, IsCopied, IsCopiedBelow, IsPartlyCopied, OnlyPrepares, heap_end, page_at}
 use Rattle.address_space.proofs.Prepared.{prepares_on}
@@ -73,7 +73,7 @@ at_err (Err e) P h = h
 
 -- pages of a process
 
-pub held_lives : (process : ProcRec) (page : ℕ) (rights : Rights) → region_of process page ≡ Some rights → is_live process ≡ true
+held_lives : (process : ProcRec) (page : ℕ) (rights : Rights) → region_of process page ≡ Some rights → is_live process ≡ true
 held_lives process page rights held = elim (cases_Bool (is_live process)) [
   | inl live ↦ live
   | inr dead ↦ let none = region_dead process page dead in absurd (cc (none, held))
@@ -94,7 +94,7 @@ pub held_one : (rights : Option Rights) → is_some rights ≡ true → (one : R
 held_one (Some one) is = (one, refl)
 held_one None is = grind arith
 
-pub none_of : (rights : Option Rights) → is_some rights ≡ false → rights ≡ None
+none_of : (rights : Option Rights) → is_some rights ≡ false → rights ≡ None
 none_of (Some one) is = grind arith
 none_of None is = refl
 
@@ -171,15 +171,17 @@ unused_holds_none page (Some process) unused = elim (cases_Bool (is_live process
 ]
 unused_holds_none page None unused = refl
 
-pub can_prepare : (r : Records) (to page number next users : ℕ) → to < 16 → IsPlaced page → live_one (r.procs to) ≡ None → users ≡ r.map.user_frames
-    → IsLeast (is_free_frame r) next users number → CanPrepare r to page number
-can_prepare r to page number next users fits placed unused all least = record {
-  fits = fits;
-  entry = placed;
-  uncounted = unused_holds_none page (r.procs to) unused;
-  within = rw all at least.to;
-  free = least.passes;
-}
+pub can_prepare : (r new : Records) (to page number next users : ℕ) → KeepsFrames r new → to < 16 → IsPlaced page → live_one (r.procs to) ≡ None
+    → users ≡ r.map.user_frames → IsLeast (is_free_frame new) next users number → CanPrepare new to page number
+can_prepare r new to page number next users keeps fits placed unused all least =
+    let frames : users ≡ new.map.user_frames = all ∙ ap (λ (map : MemoryMap). map.user_frames) (sym keeps.map) in
+    record {
+      fits = fits;
+      entry = placed;
+      uncounted = unused_holds_none page (new.procs to) (ap live_one (keeps.procs to) ∙ unused);
+      within = rw frames at least.to;
+      free = least.passes;
+    }
 
 -- one thing after the other, and nothing is stored by any
 pub unstored_on : {Rest : Type 0} (one two three : ℕ) (h middle new : Held Rest) → StaysUnstored one two h middle → StaysUnstored two three middle new → StaysUnstored one three h new
@@ -293,7 +295,7 @@ module _ {Rest : Type 0} (h mid new : Held Rest) (from to : ℕ) (process : Proc
 bare_else : (area slot table word : ℕ) → 1 ≤ table → bare_word area slot table word ≡ 0
 bare_else area slot table word one = let other : (table == 0) ≡ false = grind (arith, nat_tests) in rw other refl
 
-pub none_copied : {Rest : Type 0} (h new : Held Rest) (from to : ℕ) (process : ProcRec) → AreTablesBare h new to → OnlyPrepares to h new
+none_copied : {Rest : Type 0} (h new : Held Rest) (from to : ℕ) (process : ProcRec) → AreTablesBare h new to → OnlyPrepares to h new
     → ArePagesCopied h new from to process 0 16
 none_copied h new from to process bare only = record {
   prepares = only;
@@ -304,7 +306,7 @@ none_copied h new from to process bare only = record {
 }
 
 -- between two pages there is none of the process
-pub copied_up : {Rest : Type 0} (h new : Held Rest) (from to : ℕ) (process : ProcRec) (next below more : ℕ) → below ≤ more
+copied_up : {Rest : Type 0} (h new : Held Rest) (from to : ℕ) (process : ProcRec) (next below more : ℕ) → below ≤ more
     → ((page : ℕ) → below ≤ page → page < more → region_of process page ≡ None)
     → ArePagesCopied h new from to process next below → ArePagesCopied h new from to process next more
 copied_up h new from to process next below more upto between are = record {
@@ -427,33 +429,36 @@ module _ {Rest : Type 0} (h new : Held Rest) (from to : ℕ) (process : ProcRec)
           are.empty table word one few small (inr (sym (same (page_at table word)) ∙ unheld_place child table word one few unused))
     ]
 
-  pub below_is_copied : IsCopiedBelow h new from to below process
+  below_is_copied : IsCopiedBelow h new from to below process
   below_is_copied = record {
     frames = λ child grown page less is. framed child grown page less is;
     bytes = λ child grown a less. byte_same child grown a (inl less);
     tables = λ table word one few small high. inl (are.empty table word one few small (inl high));
   }
 
-  pub all_is_copied : ((page : ℕ) → (page < below) ⊎ (region_of process page ≡ None)) → IsCopied h new from to process
+  all_is_copied : ((page : ℕ) → (page < below) ⊎ (region_of process page ≡ None)) → IsCopied h new from to process
   all_is_copied all = record {
     pages = λ child grown. all_same child grown all;
     mapped = λ child grown. all_mapped child grown all;
     clean = λ child grown table word few small unused. all_clean child grown table word few small unused;
   }
 
+-- where the tables were not made bare no page is copied
 bare_partly : {Rest : Type 0} (h new : Held Rest) (from to : ℕ) (process : ProcRec) → AreTablesPartlyBare h new to → IsPartlyCopied h new from to process
-bare_partly h new from to process bare = (0, record {
-  frames = λ child grown page less is. absurd (omega (arith, less));
-  bytes = λ child grown a less. absurd (omega (arith, less));
-  tables = λ table word one few small high. elim (bare.words table word few small) [
-    | inl is ↦ inl (is ∙ bare_else h.records.map.area_base to table word one)
-    | inr kept ↦ inr kept
-  ];
-})
+bare_partly h new from to process bare = (
+  0,
+  record {
+    frames = λ child grown page less is. absurd (omega (arith, less));
+    bytes = λ child grown a less. absurd (omega (arith, less));
+    tables = λ table word one few small high. elim (bare.words table word few small) [
+      | inl is ↦ inl (is ∙ bare_else h.records.map.area_base to table word one)
+      | inr kept ↦ inr kept
+    ];
+  },
+)
 
--- the regions from end to end
-
-pub all_below : (process : ProcRec) → FitsProc process → is_live process ≡ true → (page : ℕ) → (page < 0x80000) ⊎ (region_of process page ≡ None)
+-- no page of a process lies behind the stack
+all_below : (process : ProcRec) → FitsProc process → is_live process ≡ true → (page : ℕ) → (page < 0x80000) ⊎ (region_of process page ≡ None)
 all_below process fits live page =
     let low = low_end process fits live in
     elim (cases_lt page 0x80000) [
@@ -546,6 +551,5 @@ module _ {Rest : Type 0} (h mid : Held Rest) (from to end : ℕ) (process : Proc
           at_entry (h.records.procs from) process (IsCopied h new from to) at_first
           (all_is_copied h new from to process last 0x80000 (second.on h front_copied) fits can_copy.live (all_below process fits can_copy.live))
 
--- where the tables were not made bare no page is copied
 pub partly_bare : {Rest : Type 0} (h new : Held Rest) (from to : ℕ) → AreTablesPartlyBare h new to → IfSome (h.records.procs from) (IsPartlyCopied h new from to)
 partly_bare h new from to bare = any_process (h.records.procs from) (IsPartlyCopied h new from to) (λ process. bare_partly h new from to process bare)

@@ -1,5 +1,5 @@
 -- How far the pages of a process are copied for another slot.
-use Rattle.std.specs.Prelude.{◌≡◌, ℕ, ◌+◌, ◌-◌, ◌%◌, ◌<◌, ◌≤◌, ◌⊎◌, Option, Some, None}
+use Rattle.std.specs.Prelude.{◌≡◌, ℕ, ◌+◌, ◌-◌, ◌%◌, ◌<◌, ◌≤◌, ◌⊎◌, Some, None}
 use Rattle.ow_base.specs.Entries.{leaf_word}
 use Rattle.ow_base.specs.Sv32.{word_or_zero}
 use Rattle.ow_base.specs.declared.machine.Rights.{Rights}

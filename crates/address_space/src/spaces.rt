@@ -78,7 +78,15 @@ pub fn copy_space<W: Writer>(live: &mut W, from: u32, to: u32) -> Result<(), Pan
     clear_tables(live, to)?;
     let process = live.proc(from).unwrap();
     let next = copy_pages(live, from, to, &process, CODE_PAGE, heap_end(&process), 0)?;
-    copy_pages(live, from, to, &process, STACK_PAGE, STACK_PAGE + STACK_PAGES, next)?;
+    copy_pages(
+        live,
+        from,
+        to,
+        &process,
+        STACK_PAGE,
+        STACK_PAGE + STACK_PAGES,
+        next,
+    )?;
     Ok(())
 }
 

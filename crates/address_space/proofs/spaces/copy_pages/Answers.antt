@@ -1,8 +1,7 @@
-use Rattle.std.proofs.Common.{◌≡◌, ◌+◌, ◌^◌, ◌<◌, Some, true, refl, sym, ap, ◌∙◌, arith}
-use Rattle.record_layouts.specs.declared.memory_map.MemoryMap.{MemoryMap}
+use Rattle.std.proofs.Common.{◌≡◌, sym, ◌∙◌, arith}
 use Rattle.record_layouts.specs.Held.{held_by}
 use Rattle.record_layouts.specs.Least.{IsLeast, NonePasses}
-use Rattle.record_layouts.specs.Pages.{live_one, region_of}
+use Rattle.record_layouts.specs.Pages.{region_of}
 use Rattle.frame_table.specs.Free.{is_free_frame}
 use Rattle.address_space.proofs.Copying.{at_err, begun_stays, can_prepare, counted_next, found_is, found_one, held_one, held_placed, one_is_free, page_more, source_of_users, unstored_on}
 use Rattle.address_space.proofs.Prepared.{prepares_on}
@@ -32,14 +31,13 @@ frame_of_page-source-requires-clause-page g c =
 pub prepare_page-requires-clause-can : goal.prepare_page-requires-clause-can
 prepare_page-requires-clause-can g c =
     let mid = g.W.RecordView.records c.loop-page.live in
-    let keeps = c.loop-page.invariant.prepares.pages.records in
     let held = sym c.region.ensures ∙ c.unwrap-rights.ensures in
     let least = found_one (IsLeast (is_free_frame mid) c.loop-page.next c.user_frames-user_frames.result) c.next_free.result c.unwrap-number.result
     c.unwrap-number.ensures c.next_free.ensures.found in
-    can_prepare mid c.args.to c.loop-page.page c.unwrap-number.result c.loop-page.next c.user_frames-user_frames.result c.requires.to
-    (held_placed c.args.process.now c.loop-page.page c.unwrap-rights.result c.requires.fits held).0
-    (ap live_one (keeps.procs c.args.to) ∙ c.requires.unused)
-    (c.user_frames-user_frames.ensures ∙ ap (λ (map : MemoryMap). map.user_frames) (sym keeps.map)) least
+    can_prepare (g.W.RecordView.records c.args.live.now) mid c.args.to c.loop-page.page c.unwrap-number.result c.loop-page.next
+    c.user_frames-user_frames.result c.loop-page.invariant.prepares.pages.records c.requires.to
+    (held_placed c.args.process.now c.loop-page.page c.unwrap-rights.result c.requires.fits held).0 c.requires.unused
+    c.user_frames-user_frames.ensures least
 
 pub prepare_page-requires-clause-source : goal.prepare_page-requires-clause-source
 prepare_page-requires-clause-source g c =
@@ -52,9 +50,13 @@ returns-in_err-prepare_page-clause-err g c =
     let mid = g.W.RecordView.records c.loop-page.live in
     let least = found_one (IsLeast (is_free_frame mid) c.loop-page.next c.user_frames-user_frames.result) c.next_free.result c.unwrap-number.result
     c.unwrap-number.ensures c.next_free.ensures.found in
-    at_err c.from_residual.result _ (c.loop-page.next, c.loop-page.page, λ h are.
-    begun_stays h (held c.loop-page.live) (held c.prepare_page.new.live) c.args.from c.args.to c.args.process.now c.loop-page.next c.loop-page.page
-    c.unwrap-number.result (c.loop-page.invariant.copied h are) least.from c.prepare_page.ensures.prepares c.in_err-prepare_page.ensures.err)
+    at_err c.from_residual.result _ (
+      c.loop-page.next,
+      c.loop-page.page,
+      λ h are.
+          begun_stays h (held c.loop-page.live) (held c.prepare_page.new.live) c.args.from c.args.to c.args.process.now c.loop-page.next c.loop-page.page
+          c.unwrap-number.result (c.loop-page.invariant.copied h are) least.from c.prepare_page.ensures.prepares c.in_err-prepare_page.ensures.err,
+    )
 
 pub returns-in_err-prepare_page-clause-prepares : goal.returns-in_err-prepare_page-clause-prepares
 returns-in_err-prepare_page-clause-prepares g c =
