@@ -10,3 +10,4 @@ pub mod UserFrames
 pub mod PagesPrepared
 pub mod BareTables
 pub mod Growing
+pub mod Copying
