@@ -1,5 +1,5 @@
 //! Commits that are refused at each of their stores, and what is read of memory then.
-ghost use Rattle.std.specs.Prelude.{◌≡◌, ◌<◌, true, None, IfSome, IfOk};
+ghost use Rattle.std.specs.Prelude.{◌≡◌, ◌<◌, true, None, IfSome};
 ghost use Rattle.ow_plant.specs.State.{IsArmed};
 ghost use Rattle.record_layouts.specs.Held.{IsCommittable, Records};
 ghost use Rattle.record_layouts.specs.Head.{FitsHead};
@@ -12,8 +12,9 @@ ghost use Rattle.record_layouts.specs.Term.{FitsTerm};
 ghost use Rattle.record_layouts.specs.Row.{FitsRow};
 ghost use Rattle.record_layouts.specs.Exit.{FitsExit};
 
+use crate::plants::{differ_there, machine, record_words, set_words};
 use intent_store::Live;
-use ow_base::{Came, Shape, WordSource};
+use ow_base::Came;
 use ow_plant::Plant;
 use record_layouts::{
     AnyRec, AreaView, CacheRec, DescRec, ExitRec, FileRec, HeadRec, MemoryMap, Patch, PatchItem,
@@ -22,15 +23,7 @@ use record_layouts::{
 use std::alloc::{AllocError, Global};
 use std::test::Fail;
 use test_fixtures::{
-    AFTER, BEFORE, CACHE, DESC, EXIT, FILE, HEAD, MAP, PROC, ROW, SIG, TERM, intent_of_5, point,
-    sealed,
-};
-
-const SHAPE: Shape = Shape {
-    user_frames: 0,
-    sectors: 4,
-    quantum: 1,
-    budget: 1,
+    AFTER, BEFORE, CACHE, DESC, EXIT, FILE, HEAD, MAP, PROC, ROW, SIG, TERM, intent_of_5, sealed,
 };
 
 const DISK: MemoryMap = MemoryMap { sectors: 4, ..MAP };
@@ -174,24 +167,6 @@ fn are_read(plant: &Plant, patch: &Patch) -> bool {
     true
 }
 
-// Stores words of area A from this number on; whether no store was refused.
-fn set_words(plant: &mut Plant, first: u32, words: &[u32]) -> bool
-    requires armed { IsArmed plant.old }
-    requires free { plant.old.refusal ≡ None }
-    requires first { first < 12288 }
-    ensures armed { IsArmed plant.new }
-    ensures free { result ≡ true → plant.new.refusal ≡ None }
-{
-    for (place, word) in words.iter().enumerate() {
-        let number = first + (place % 1024) as u32;
-        match plant.store(1 + number / 1024, number % 1024, *word) {
-            Ok(()) => {}
-            Err(_) => return false,
-        }
-    }
-    true
-}
-
 // Opens an intent that sets the record of pid 5.
 fn open_earlier(plant: &mut Plant) -> bool
     requires armed { IsArmed plant.old }
@@ -217,16 +192,6 @@ fn commit_on(plant: &mut Plant, patch: &Patch) -> bool
     live.commit(&patch.view()).is_ok()
 }
 
-// A machine that refuses this store of trap 1, with a head and the record of pid 5.
-fn machine(alloc: Global, store: u32) -> Result<Plant, AllocError>
-    ensures armed { IfOk result IsArmed }
-    ensures free { IfOk result (λ plant. plant.refusal ≡ None) }
-{
-    let mut plant = Plant::new(alloc);
-    plant.arm(alloc, SHAPE, &[], &[], &[point(1, store)])?;
-    Ok(plant)
-}
-
 // What a commit came to: whether it answered Ok, how many stores it made, whether the records are read as they were
 // and as they were to become, whether that of pid 5 is as it was, and whether no word beside these and the block changed.
 #[derive(Clone, Copy, Debug, PartialEq, Eq)]
@@ -237,35 +202,6 @@ struct Outcome {
     after: bool,
     earlier: bool,
     rest: bool,
-}
-
-// The words of the frames of area A that hold records.
-fn record_words(alloc: Global, plant: &Plant) -> Result<Vec<u32>, AllocError> {
-    let mut words = vec![in alloc; 0u32; 12288]?;
-    for (number, word) in words.iter_mut().enumerate() {
-        let number = (number % 12288) as u32;
-        *word = WordSource::load(plant, 1 + number / 1024, number % 1024).unwrap_or(0);
-    }
-    Ok(words)
-}
-
-// Whether all words that differ are of one of these ranges, of their first word and their length.
-fn differ_there(some: &[u32], others: &[u32], ranges: &[(usize, usize)]) -> bool {
-    for (number, (one, other)) in some.iter().zip(others).enumerate() {
-        if one != other && !lies_in(number, ranges) {
-            return false;
-        }
-    }
-    true
-}
-
-fn lies_in(number: usize, ranges: &[(usize, usize)]) -> bool {
-    for (first, length) in ranges {
-        if *first <= number && number - *first < *length {
-            return true;
-        }
-    }
-    false
 }
 
 // A patch of so many records, where they and the block and the record of pid 5 lie, how many stores its commit makes,
@@ -378,7 +314,7 @@ fn trial(
     let (Some(old), Some(new)) = (patch_of(case.count, 0), patch_of(case.count, 1)) else {
         return Ok(None);
     };
-    let mut plant = machine(alloc, store)?;
+    let mut plant = machine(alloc, 0, store)?;
     if !prepare(&mut plant, &old, is_open) {
         return Ok(None);
     }

@@ -10,11 +10,15 @@ mod frame_table_tests;
 #[cfg(test)]
 mod intent_store_tests;
 #[cfg(test)]
+mod plants;
+#[cfg(test)]
 mod process_table_tests;
 #[cfg(test)]
 mod record_layouts_tests;
 #[cfg(test)]
 mod small_view;
+#[cfg(test)]
+mod spaces_tests;
 #[cfg(test)]
 mod syscalls_tests;
 #[cfg(test)]

@@ -3,7 +3,7 @@ use Rattle.ow_plant.specs.State.{IsArmed, PlantState}
 use Rattle.ow_plant.proofs.Armed.{IsArmed-stored}
 use Rattle.phys_memory.specs.Memory.{frame_count}
 use Rattle.phys_memory.proofs.Words.{frame_count-sized}
-use Rattle.kernel_tests.proofs.intent_store_tests.set_words.Goals as goal
+use Rattle.kernel_tests.proofs.plants.set_words.Goals as goal
 
 pub store-requires-clause-frame : goal.store-requires-clause-frame
 store-requires-clause-frame c =

@@ -1,6 +1,6 @@
 use Rattle.std.proofs.Common.{◌≡◌, None}
 use Rattle.ow_plant.specs.State.{IsArmed}
-use Rattle.kernel_tests.proofs.intent_store_tests.set_words.Given as goal
+use Rattle.kernel_tests.proofs.plants.set_words.Given as goal
 
 -- no store was refused
 abbrev pub invariant-loop-place : goal.invariant-loop-place
