@@ -72,7 +72,7 @@ no_region : (r : Records) (slot page : ℕ) (process : ProcRec) → region_of pr
 no_region r slot page process none (Some entry) = rw none refl
 no_region r slot page process none None = refl
 
-frame_behind : (r : Records) (slot page : ℕ) (process : ProcRec) → region_of process page ≡ None → frame_of r slot process page ≡ None
+pub frame_behind : (r : Records) (slot page : ℕ) (process : ProcRec) → region_of process page ≡ None → frame_of r slot process page ≡ None
 unfolding frame_of
 frame_behind r slot page process none = no_region r slot page process none (entry_for r slot page)
 
