@@ -41,6 +41,13 @@ pub region_dead : (process : ProcRec) (page : ℕ) → is_live process ≡ false
 unfolding region_of
 region_dead process page dead = grind (arith, nat_tests)
 
+-- a process that has a page goes on
+pub held_lives : (process : ProcRec) (page : ℕ) (rights : Rights) → region_of process page ≡ Some rights → is_live process ≡ true
+held_lives process page rights held = elim (cases_Bool (is_live process)) [
+  | inl live ↦ live
+  | inr dead ↦ let none = region_dead process page dead in absurd (cc (none, held))
+]
+
 -- a page is of the regions or is not
 pub in_or_out : (process : ProcRec) (page : ℕ)
     → IsOfRegions process page ⊎ ((page < 16 ⊎ values_end process ≤ page) × (page < 0x7fffc ⊎ 0x80000 ≤ page))

@@ -207,15 +207,16 @@ counted_on r k =
       | inr taken ↦ ap (free_before r) next ∙ rw taken (before_taken r k taken ∙ sym (plus_none (free_before r k)))
     ]
 
-after : (r : Records) (k : ℕ) → is_free_frame r k ≡ true → free_before r (k + 1) ≡ free_before r k + 1
-after r k free = let next : k + 1 ≡ suc k = omega arith in ap (free_before r) next ∙ before_next r k free
+-- one more where that frame is free
+pub counted_free : (r : Records) (k : ℕ) → is_free_frame r k ≡ true → free_before r (k + 1) ≡ free_before r k + 1
+counted_free r k free = let next : k + 1 ≡ suc k = omega arith in ap (free_before r) next ∙ before_next r k free
 
 pub next_is : (r : Records) (user_frames i k number : ℕ) → IsNthFree r user_frames i k → IsLeast (is_free_frame r) (k + 1) user_frames number
     → IsNthFree r user_frames (i + 1) number
 next_is r user_frames i k number is least = record {
   within = least.to;
   free = least.passes;
-  before = before_same r (k + 1) number least.from least.below ∙ after r k is.free ∙ ap (λ n. n + 1) is.before;
+  before = before_same r (k + 1) number least.from least.below ∙ counted_free r k is.free ∙ ap (λ n. n + 1) is.before;
 }
 
 pub none_first : (r : Records) (user_frames i : ℕ) → NonePasses (is_free_frame r) 0 user_frames → free_before r user_frames ≤ i
@@ -223,7 +224,7 @@ none_first r user_frames i none = none_behind r 0 user_frames i (omega (arith, b
 
 pub none_next : (r : Records) (user_frames i k before : ℕ) → IsNthFree r user_frames before k → before < i → NonePasses (is_free_frame r) (k + 1) user_frames
     → free_before r user_frames ≤ i
-none_next r user_frames i k before is less none = none_behind r (k + 1) user_frames i (omega (arith, after r k is.free, is.before, less)) none
+none_next r user_frames i k before is less none = none_behind r (k + 1) user_frames i (omega (arith, counted_free r k is.free, is.before, less)) none
 
 pub nth_value : (r : Records) (user_frames i number : ℕ) → IsNthFree r user_frames i number → in_memory r (nth_free r user_frames i) ≡ Some (r.map.pool_base + number)
 nth_value r user_frames i number is = ap (in_memory r) (nth_found r user_frames i number is.within is.free is.before).0

@@ -10,21 +10,22 @@ use Rattle.record_layouts.specs.Held.{Records, with_owner_words, with_table_word
 use Rattle.record_layouts.specs.Pages.{claim_of, entry_for, frame_if, frame_of, is_live, leaf_frame, owned, page_frame_of, region_of, table_frame}
 use Rattle.record_layouts.specs.Sound.{is_table_place}
 use Rattle.frame_table.specs.Free.{ClaimsNone, KeepsFrames, is_free_frame, is_page_of, is_table_word_of}
-use Rattle.frame_table.proofs.Counting.{region_dead}
+use Rattle.frame_table.proofs.Counting.{held_lives}
 use Rattle.frame_table.proofs.Found.{IsFrameOf, frame_found}
 use Rattle.frame_table.proofs.Free.{free_holds_none, this_one}
+use Rattle.frame_table.proofs.Tables.{all_four}
 
 -- the frame of a page of a slot, and the process there
-record PageFound (r : Records) (slot page frame : ℕ) : Type 0 where
-  process : ProcRec
-  there : r.procs slot ≡ Some process
-  is : IsFrameOf r slot process page frame
+pub record PageFound (r : Records) (slot page frame : ℕ) : Type 0 where
+  pub process : ProcRec
+  pub there : r.procs slot ≡ Some process
+  pub is : IsFrameOf r slot process page frame
 
 found_if : (r : Records) (slot page frame : ℕ) (process : Option ProcRec) → r.procs slot ≡ process → frame_if r slot page process ≡ Some frame → PageFound r slot page frame
 found_if r slot page frame (Some process) there e = record { process = process; there = there; is = frame_found r slot process page frame e }
 found_if r slot page frame None there e = absurd (cc e)
 
-page_found : (r : Records) (slot page frame : ℕ) → page_frame_of r slot page ≡ Some frame → PageFound r slot page frame
+pub page_found : (r : Records) (slot page frame : ℕ) → page_frame_of r slot page ≡ Some frame → PageFound r slot page frame
 unfolding page_frame_of
 page_found r slot page frame e = found_if r slot page frame (r.procs slot) refl e
 
@@ -35,7 +36,8 @@ leaf_back frame Values = grind (arith, nat_tests)
 owned_there : (r : Records) (slot page frame : ℕ) → r.map.pool_base ≤ frame → r.owners (frame - r.map.pool_base) ≡ claim_of slot page → owned r slot page (Some frame) ≡ Some frame
 owned_there r slot page frame up claim = grind (arith, nat_tests, up, claim)
 
-frame_there : (r : Records) (slot : ℕ) (process : ProcRec) (page frame : ℕ) → IsFrameOf r slot process page frame → frame_of r slot process page ≡ Some frame
+-- and back: such a frame is that of the page
+pub frame_there : (r : Records) (slot : ℕ) (process : ProcRec) (page frame : ℕ) → IsFrameOf r slot process page frame → frame_of r slot process page ≡ Some frame
 unfolding frame_of
 frame_there r slot process page frame f =
     rw (f.entry, f.held) (ap (owned r slot page) (leaf_back frame f.rights) ∙ owned_there r slot page frame f.of_users f.claimed)
@@ -67,16 +69,9 @@ set_to : (b : Bool) (x y : ℕ) → b ≡ true → (if b then x else y) ≡ x
 set_to true x y e = refl
 set_to false x y e = absurd (cc e)
 
-and_false : (a b : Bool) → b ≡ false → (a && b) ≡ false
+pub and_false : (a b : Bool) → b ≡ false → (a && b) ≡ false
 and_false true b e = e
 and_false false b e = refl
-
-last_two : (a b c d : Bool) → (a && b && c && d) ≡ true → (c ≡ true) × (d ≡ true)
-last_two true true true true e = (refl, refl)
-last_two true true true false e = grind arith
-last_two true true false d e = grind arith
-last_two true false c d e = grind arith
-last_two false b c d e = grind arith
 
 equal_by : (m n : ℕ) → (m == n) ≡ true → m ≡ n
 equal_by m n e = grind (arith, nat_tests, e)
@@ -185,8 +180,8 @@ module _ (r : Records) (frame : ℕ) (hit : ℕ → Bool) (value : ℕ → ℕ)
       let test = nat_lt table 3 && nat_lt word 1024 && 16 + 3 * slot + table == frame && hit word in
       elim (cases_Bool test) [
         | inl is ↦
-            let two = last_two (nat_lt table 3) (nat_lt word 1024) (16 + 3 * slot + table == frame) (hit word) is in
-            let none = unused slot table word within third small (equal_by _ _ two.0) two.1 in
+            let parts = all_four (nat_lt table 3) (nat_lt word 1024) (16 + 3 * slot + table == frame) (hit word) is in
+            let none = unused slot table word within third small (equal_by _ _ parts.2) parts.3 in
             absurd (cc (none, counts))
         | inr misses ↦ unset test (value word) (r.table_words slot table word) misses
       ]
@@ -194,10 +189,7 @@ module _ (r : Records) (frame : ℕ) (hit : ℕ → Bool) (value : ℕ → ℕ)
   module _ (slot page : ℕ) (process : ProcRec) (rights : Rights) (within : slot < 16) (there : r.procs slot ≡ Some process)
       (held : region_of process page ≡ Some rights) where
     lives : is_live process ≡ true
-    lives = elim (cases_Bool (is_live process)) [
-      | inl live ↦ live
-      | inr dead ↦ let none = region_dead process page dead in absurd (cc (none, held))
-    ]
+    lives = held_lives process page rights held
 
     root_counts : (place : ℕ) → is_table_place process 0 place ≡ true → is_table_word_of 0 place (r.procs slot) ≡ true
     root_counts place is = rw (there, lives, is) refl

@@ -63,8 +63,8 @@ pub nth_kept : (r new : Records) (user_frames i : ℕ) → KeepsFrames r new →
 unfolding nth_free
 nth_kept r new user_frames i keeps = ap (λ (test : ℕ → Bool). least_from test 0 user_frames) (fun_ext (λ number. test_kept r new i number keeps))
 
--- the frame of a page of a live process, also behind the last page that can be
-frame_in : (r : Records) (slot page : ℕ) (process : ProcRec) → r.procs slot ≡ Some process → page_frame_of r slot page ≡ frame_of r slot process page
+-- the frame of a page of the process in a slot
+pub frame_in : (r : Records) (slot page : ℕ) (process : ProcRec) → r.procs slot ≡ Some process → page_frame_of r slot page ≡ frame_of r slot process page
 unfolding page_frame_of
 frame_in r slot page process there = rw there refl
 
@@ -80,7 +80,8 @@ module _ {Rest : Type 0} (h new : Held Rest) (keeps : KeepsPages h new) (slot : 
   behind : (page : ℕ) → 2 ^ 20 ≤ page → region_of process page ≡ None
   behind page high = let low = low_end process fits at.live in region_none process page (inr (omega arith)) (inr (omega arith))
 
-  frame_kept : (page : ℕ) → frame_of new.records slot process page ≡ frame_of h.records slot process page
+  -- the frame of a page of a live process, also behind the last page that can be
+  pub frame_kept : (page : ℕ) → frame_of new.records slot process page ≡ frame_of h.records slot process page
   frame_kept page = elim (cases_lt page (2 ^ 20)) [
     | inl small ↦
         sym (frame_in new.records slot page process (keeps.records.procs slot ∙ at.there))

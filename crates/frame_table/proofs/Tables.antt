@@ -28,27 +28,28 @@ frames_from r slot process first (suc count) page have from below = elim (cases_
 ]
 
 -- what is_mapped says
-record HasFrames (r : Records) (slot : ℕ) (process : ProcRec) : Type 0 where
-  low : is_linked r slot 1 low_place ≡ true
-  high : is_linked r slot 2 high_place ≡ true
+pub record HasFrames (r : Records) (slot : ℕ) (process : ProcRec) : Type 0 where
+  pub low : is_linked r slot 1 low_place ≡ true
+  pub high : is_linked r slot 2 high_place ≡ true
   front : have_frames r slot process 16 (process.code_pages + (process.data_pages + heap_pages process)) ≡ true
   stack : have_frames r slot process 0x7fffc 4 ≡ true
 
-four : (a b c d : Bool) → (a && b && c && d) ≡ true → (a ≡ true) × (b ≡ true) × (c ≡ true) × (d ≡ true)
-four true true true true e = (refl, refl, refl, refl)
-four true true true false e = grind arith
-four true true false d e = grind arith
-four true false c d e = grind arith
-four false b c d e = grind arith
+pub all_four : (a b c d : Bool) → (a && b && c && d) ≡ true → (a ≡ true) × (b ≡ true) × (c ≡ true) × (d ≡ true)
+all_four true true true true e = (refl, refl, refl, refl)
+all_four true true true false e = grind arith
+all_four true true false d e = grind arith
+all_four true false c d e = grind arith
+all_four false b c d e = grind arith
 
-mapped_frames : (r : Records) (slot : ℕ) (process : ProcRec) → is_mapped r slot process ≡ true → HasFrames r slot process
+pub mapped_frames : (r : Records) (slot : ℕ) (process : ProcRec) → is_mapped r slot process ≡ true → HasFrames r slot process
 unfolding is_mapped
 mapped_frames r slot process mapped =
-    let parts = four _ _ _ _ mapped in
+    let parts = all_four _ _ _ _ mapped in
     record { low = parts.0; high = parts.1; front = parts.2; stack = parts.3 }
 
-is_there : (found : Option ℕ) → is_some found ≡ true → (frame : ℕ) × (found ≡ Some frame)
-is_there (Some frame) there = (frame, refl)
+-- what an option has where it has something
+pub is_there : {T : Type 0} (found : Option T) → is_some found ≡ true → (one : T) × (found ≡ Some one)
+is_there (Some one) there = (one, refl)
 is_there None there = grind arith
 
 -- a page has rights and a frame, or neither of them
@@ -135,7 +136,7 @@ owned_below r words slot page number of claimed = elim (cases_lt number r.map.us
 ]
 
 -- the entry of a page of one of the two tables
-low_entry : (r : Records) (slot page : ℕ) → is_linked r slot 1 low_place ≡ true → page < 1024 → entry_for r slot page ≡ Some (r.table_words slot 1 page)
+pub low_entry : (r : Records) (slot page : ℕ) → is_linked r slot 1 low_place ≡ true → page < 1024 → entry_for r slot page ≡ Some (r.table_words slot 1 page)
 unfolding entry_for
 low_entry r slot page linked low =
     let first : page / 1024 ≡ 0 = omega arith in
@@ -149,7 +150,7 @@ high_entry r slot i linked low =
     let place : (523264 + i) % 1024 ≡ i = omega arith in
     rw (last, place, linked) refl
 
-some_same : (a b : ℕ) → Some a ≡ Some b → a ≡ b
+pub some_same : (a b : ℕ) → Some a ≡ Some b → a ≡ b
 some_same a b e = cc
 
 module _ (r : Records) (slot : ℕ) (process : ProcRec) (at : IsIn r slot process) (is : AreMapped r) where
