@@ -4,18 +4,16 @@ use Rattle.std.proofs.lemmas.Bool.{cases_Bool, cases_lt}
 use Rattle.std.proofs.lemmas.Bool.Decides.{nat_tests}
 use Rattle.record_layouts.specs.declared.proc.ProcRec.{ProcRec}
 use Rattle.record_layouts.specs.Held.{Held, Records, stored}
-use Rattle.record_layouts.specs.Pages.{is_live, live_one, table_frame}
+use Rattle.record_layouts.specs.Pages.{live_one, table_frame}
 use Rattle.frame_table.specs.Free.{is_table_word_of}
 use Rattle.address_space.specs.Preparing.{AreTablesBare, AreTablesPartlyBare, AreWordsBare, bare_word}
 use Rattle.address_space.specs.Spaces.{OnlyPrepares}
+use Rattle.address_space.proofs.Living.{unused_dead}
 use Rattle.address_space.proofs.PagesPrepared.{entered_is, entered_prepares}
 
 -- no word counts where no process goes on
 unused_if : (process : Option ProcRec) (table word : ℕ) → live_one process ≡ None → is_table_word_of table word process ≡ false
-unused_if (Some process) table word none = elim (cases_Bool (is_live process)) [
-  | inl live ↦ absurd (cc (rw live at none))
-  | inr dead ↦ rw dead refl
-]
+unused_if (Some process) table word none = rw (unused_dead process none) refl
 unused_if None table word none = refl
 
 -- the words of the tables are counted

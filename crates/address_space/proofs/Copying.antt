@@ -1,34 +1,33 @@
 -- Pages that are copied for another slot, one after the other.
-use Rattle.std.proofs.Common.{◌≡◌, ◌≢◌, ℕ, ◌+◌, ◌-◌, ◌*◌, ◌/◌, ◌%◌, ◌^◌, ◌<◌, ◌≤◌, ◌⊎◌, true, false, ◌==◌, ◌&&◌, Option, Some, None, IfSome, IfNone, is_some, Result, Ok, Err, OnErr, refl, sym, ap, ◌∙◌, inl, inr, arith}
-use Rattle.std.proofs.lemmas.Bool.{cases_Bool, cases_eq, cases_lt}
+use Rattle.std.proofs.Common.{◌≡◌, ◌≢◌, ℕ, ◌+◌, ◌-◌, ◌*◌, ◌/◌, ◌%◌, ◌^◌, ◌<◌, ◌≤◌, ◌⊎◌, true, false, ◌==◌, ◌&&◌, Option, Some, None, IfSome, IfNone, is_some, refl, sym, ap, ◌∙◌, inl, inr, arith}
+use Rattle.std.proofs.lemmas.Bool.{cases_eq, cases_lt}
 use Rattle.std.proofs.lemmas.Bool.Decides.{nat_tests}
 use Rattle.ow_base.specs.Entries.{leaf_word}
 use Rattle.ow_base.specs.Sv32.{WordMap, byte_of, word_or_zero}
 use Rattle.ow_base.specs.declared.machine.Rights.{Rights}
-use Rattle.ow_base.specs.declared.machine.Rights.TheVariants.{Code, Values}
 use Rattle.sv32_tables.proofs.Spaces.{pages_ext}
 use Rattle.record_layouts.specs.declared.memory_map.MemoryMap.{MemoryMap}
 use Rattle.record_layouts.specs.declared.proc.ProcRec.{ProcRec}
-use Rattle.record_layouts.specs.Held.{Held, Records, StaysUnstored}
+use Rattle.record_layouts.specs.Held.{Held, Records}
 use Rattle.record_layouts.specs.Least.{IsLeast, NonePasses}
 use Rattle.record_layouts.specs.Memory.{AreOfMemory}
-use Rattle.record_layouts.specs.Pages.{byte_on, claim_of, entry_for, frame_by, frame_of, heap_pages, is_linked, is_live, is_mapped, leaf_frame, live_one, owned, page_frame_of, page_total, pages_of, region_of}
+use Rattle.record_layouts.specs.Pages.{byte_on, entry_for, frame_of, heap_pages, is_linked, is_live, is_mapped, live_one, page_frame_of, pages_of, region_of}
 use Rattle.record_layouts.specs.Proc.{FitsProc}
 use Rattle.record_layouts.specs.Sound.{is_table_place}
 use Rattle.record_layouts.proofs.Frames.{have_all}
 use Rattle.frame_table.specs.Free.{KeepsFrames, free_before, is_free_frame, is_page_of}
-use Rattle.frame_table.proofs.Counting.{in_or_out, low_end, region_dead, region_none, region_there, values_end}
+use Rattle.frame_table.proofs.Counting.{held_lives, in_or_out, low_end, region_dead, region_none, region_there, values_end}
 use Rattle.frame_table.proofs.Found.{frame_found}
-use Rattle.frame_table.proofs.Free.{before_same, before_zero, counted_on, none_behind}
-use Rattle.frame_table.proofs.Kept.{before_kept, free_same}
+use Rattle.frame_table.proofs.Free.{before_zero}
+use Rattle.frame_table.proofs.Keeping.{frame_there}
+use Rattle.frame_table.proofs.Kept.{before_kept, frame_behind, frame_in}
+use Rattle.frame_table.proofs.Tables.{is_there, owned_below}
 use Rattle.address_space.specs.Copying.{ArePagesCopied, IsPageCopied, IsRangeCopied, IsRangePartlyCopied}
-use Rattle.address_space.specs.Preparing.{AreTablesBare, AreTablesPartlyBare, CanPrepare, IsPageBegun, IsPagePrepared, IsUserFrame, bare_word, table_of, word_from}
+use Rattle.address_space.specs.Preparing.{AreTablesBare, AreTablesPartlyBare, IsPageBegun, IsPagePrepared, IsUserFrame, bare_word, table_of, word_from}
 use Rattle.address_space.specs.Spaces.{CanCopy, HasGrown, IsCopied, IsCopiedBelow, IsPartlyCopied, OnlyPrepares, heap_end, page_at}
+use Rattle.address_space.proofs.Living.{live_can, pages_live, unused_dead}
 use Rattle.address_space.proofs.Prepared.{prepares_on}
-
--- one of the two tables has an entry for the page
-abbrev pub IsPlaced : (page : ℕ) → Type 0
-IsPlaced page = (page / 1024 ≡ 0) ⊎ (page / 1024 ≡ 511)
+use Rattle.address_space.proofs.Taking.{IsPlaced, begun_entries, one_left, one_taken}
 
 -- where the entry of a page is
 
@@ -60,24 +59,10 @@ root_missed slot word page = let other = no_root page in grind (arith, nat_tests
 
 -- what there is or is not
 
-pub found_is : (P : Type 0) (found : Option ℕ) → IfNone found P → (P → ⊥) → is_some found ≡ true
-found_is P (Some number) none not_none = refl
-found_is P None none not_none = absurd (not_none none)
-
 pub found_one : (P : ℕ → Type 0) (found : Option ℕ) (number : ℕ) → found ≡ Some number → IfSome found P → P number
 found_one P found number e some = rw e at some
 
-pub at_err : {T E : Type 0} (r : Result T E) (P : Type 0) → P → OnErr r P
-at_err (Ok x) P h = tt
-at_err (Err e) P h = h
-
 -- pages of a process
-
-held_lives : (process : ProcRec) (page : ℕ) (rights : Rights) → region_of process page ≡ Some rights → is_live process ≡ true
-held_lives process page rights held = elim (cases_Bool (is_live process)) [
-  | inl live ↦ live
-  | inr dead ↦ let none = region_dead process page dead in absurd (cc (none, held))
-]
 
 pub held_placed : (process : ProcRec) (page : ℕ) (rights : Rights) → FitsProc process → region_of process page ≡ Some rights → IsPlaced page × (page < 2 ^ 20)
 held_placed process page rights fits held =
@@ -90,34 +75,11 @@ held_placed process page rights fits held =
       | inr outside ↦ let none = region_none process page outside.0 outside.1 in absurd (cc (none, held))
     ]
 
-pub held_one : (rights : Option Rights) → is_some rights ≡ true → (one : Rights) × (rights ≡ Some one)
-held_one (Some one) is = (one, refl)
-held_one None is = grind arith
-
 none_of : (rights : Option Rights) → is_some rights ≡ false → rights ≡ None
 none_of (Some one) is = grind arith
 none_of None is = refl
 
 -- frames of pages
-
-frame_in : (r : Records) (slot page : ℕ) (process : ProcRec) → r.procs slot ≡ Some process → page_frame_of r slot page ≡ frame_of r slot process page
-unfolding page_frame_of
-frame_in r slot page process there = rw there refl
-
-no_frame_by : (r : Records) (slot page : ℕ) (entry : Option ℕ) → frame_by r slot page entry None ≡ None
-no_frame_by r slot page (Some entry) = refl
-no_frame_by r slot page None = refl
-
-no_frame : (r : Records) (slot page : ℕ) (process : ProcRec) → region_of process page ≡ None → frame_of r slot process page ≡ None
-unfolding frame_of
-no_frame r slot page process none = rw none (no_frame_by r slot page (entry_for r slot page))
-
-leaf_back : (frame : ℕ) (rights : Rights) → leaf_frame (leaf_word frame rights) rights ≡ Some frame
-leaf_back frame Code = grind (arith, nat_tests)
-leaf_back frame Values = grind (arith, nat_tests)
-
-owned_there : (r : Records) (slot page frame : ℕ) → r.map.pool_base ≤ frame → r.owners (frame - r.map.pool_base) ≡ claim_of slot page → owned r slot page (Some frame) ≡ Some frame
-owned_there r slot page frame up claim = grind (arith, nat_tests, up, claim)
 
 entry_there : (r : Records) (slot page word : ℕ) → is_linked r slot 1 0 ≡ true → is_linked r slot 2 511 ≡ true → IsPlaced page
     → r.table_words slot (table_of page) (page % 1024) ≡ word → entry_for r slot page ≡ Some word
@@ -125,23 +87,13 @@ unfolding entry_for
 entry_there r slot page word low high (inl first) e = let at : r.table_words slot 1 (page % 1024) ≡ word = rw first at e in rw (first, low) (ap Some at)
 entry_there r slot page word low high (inr last) e = let at : r.table_words slot 2 (page % 1024) ≡ word = rw last at e in rw (last, high) (ap Some at)
 
-frame_there : (r : Records) (slot page frame : ℕ) (process : ProcRec) (rights : Rights) → entry_for r slot page ≡ Some (leaf_word frame rights)
-    → region_of process page ≡ Some rights → r.map.pool_base ≤ frame → r.owners (frame - r.map.pool_base) ≡ claim_of slot page
-    → frame_of r slot process page ≡ Some frame
-unfolding frame_of
-frame_there r slot page frame process rights entry held up claim =
-    rw (entry, held) (ap (owned r slot page) (leaf_back frame rights) ∙ owned_there r slot page frame up claim)
-
 -- the frame of a page of a process is a user frame
 pub source_of_users : (r : Records) (words : WordMap) (slot page : ℕ) (process : ProcRec) (source : Option ℕ) → AreOfMemory r words
     → source ≡ frame_of r slot process page → IfSome source (IsUserFrame r)
 source_of_users r words slot page process (Some frame) of e =
     let f = frame_found r slot process page frame (sym e) in
-    let up : r.map.pool_base ≤ frame = f.of_users in
-    elim (cases_lt frame (r.map.pool_base + r.map.user_frames)) [
-      | inl within ↦ (up, within)
-      | inr behind ↦ let none = of.no_owner (frame - r.map.pool_base) (omega (arith, behind)) in absurd (omega (arith, none, f.claimed))
-    ]
+    let below = owned_below r words slot page (frame - r.map.pool_base) of f.claimed in
+    (f.of_users, omega (arith, f.of_users, below))
 source_of_users r words slot page process None of e = tt
 
 -- free frames
@@ -149,46 +101,18 @@ source_of_users r words slot page process None of e = tt
 module _ (r new : Records) (keeps : KeepsFrames r new) (taken next first page : ℕ)
     (counted : free_before r next ≡ free_before r taken + (page - first)) (behind : first ≤ page) where
   -- a frame is free for each page that is left
-  pub one_is_free : (end users : ℕ) → free_before r taken + (end - first) ≤ free_before r users → page < end → NonePasses (is_free_frame new) next users → ⊥
-  one_is_free end users room below none =
-      let few = none_behind new next users (free_before new next) (omega arith) none in
-      absurd (omega (arith, few, before_kept r new next keeps, before_kept r new users keeps, room, counted, behind, below))
+  pub one_is_free : (end users : ℕ) → free_before r taken + (end - first) ≤ free_before r users → page < end
+      → (found : Option ℕ) → IfNone found (NonePasses (is_free_frame new) next users) → is_some found ≡ true
+  one_is_free end users room below found none = one_left r new keeps next users (omega (arith, room, counted, behind, below)) found none
 
   -- and one more is taken
   pub counted_next : (number users : ℕ) → IsLeast (is_free_frame new) next users number → free_before r (number + 1) ≡ free_before r taken + (page + 1 - first)
-  counted_next number users least =
-      let free : is_free_frame r number ≡ true = sym (free_same r new number keeps) ∙ least.passes in
-      let upto : free_before r number ≡ free_before r next =
-      sym (before_kept r new number keeps) ∙ before_same new next number least.from least.below ∙ before_kept r new next keeps in
-      let one : free_before r (number + 1) ≡ free_before r number + 1 = counted_on r number ∙ rw free refl in
-      omega (arith, upto, one, counted, behind)
+  counted_next number users least = let one = one_taken r new keeps next users number least in omega (arith, one, counted, behind)
 
 -- a slot in which no process goes on has no page
-unused_holds_none : (page : ℕ) (held : Option ProcRec) → live_one held ≡ None → is_page_of page held ≡ false
-unused_holds_none page (Some process) unused = elim (cases_Bool (is_live process)) [
-  | inl live ↦ grind (arith, live, unused)
-  | inr dead ↦ rw (region_dead process page dead) refl
-]
+pub unused_holds_none : (page : ℕ) (held : Option ProcRec) → live_one held ≡ None → is_page_of page held ≡ false
+unused_holds_none page (Some process) unused = rw (region_dead process page (unused_dead process unused)) refl
 unused_holds_none page None unused = refl
-
-pub can_prepare : (r new : Records) (to page number next users : ℕ) → KeepsFrames r new → to < 16 → IsPlaced page → live_one (r.procs to) ≡ None
-    → users ≡ r.map.user_frames → IsLeast (is_free_frame new) next users number → CanPrepare new to page number
-can_prepare r new to page number next users keeps fits placed unused all least =
-    let frames : users ≡ new.map.user_frames = all ∙ ap (λ (map : MemoryMap). map.user_frames) (sym keeps.map) in
-    record {
-      fits = fits;
-      entry = placed;
-      uncounted = unused_holds_none page (new.procs to) (ap live_one (keeps.procs to) ∙ unused);
-      within = rw frames at least.to;
-      free = least.passes;
-    }
-
--- one thing after the other, and nothing is stored by any
-pub unstored_on : {Rest : Type 0} (one two three : ℕ) (h middle new : Held Rest) → StaysUnstored one two h middle → StaysUnstored two three middle new → StaysUnstored one three h new
-unstored_on one two three h middle new first second none =
-    let after = second none in
-    let before = first after.0 in
-    (before.0, after.1 ∙ before.1)
 
 -- one page more
 
@@ -217,14 +141,12 @@ module _ {Rest : Type 0} (h mid new : Held Rest) (from to : ℕ) (process : Proc
 
   pub begun_stays : IsPageBegun mid new number → ArePagesCopied h new from to process next page
   begun_stays begun =
-      let same : (table word : ℕ) → new.records.table_words to table word ≡ mid.records.table_words to table word =
-      λ table word. ap (λ (r : Records). r.table_words to table word) begun.records in
       record {
         prepares = prepares_on to h mid new are.prepares only;
-        root = λ word small. same 0 word ∙ are.root word small;
+        root = λ word small. begun_entries mid new number to 0 word begun ∙ are.root word small;
         pages = λ its rights below held.
-            page_stays next its rights (omega arith) begun.owners (same (table_of its) (its % 1024)) begun.contents (are.pages its rights below held);
-        empty = λ table word one few small beyond. same table word ∙ are.empty table word one few small beyond;
+            page_stays next its rights (omega arith) begun.owners (begun_entries mid new number to (table_of its) (its % 1024) begun) begun.contents (are.pages its rights below held);
+        empty = λ table word one few small beyond. begun_entries mid new number to table word begun ∙ are.empty table word one few small beyond;
       }
 
   module _ (rights : Rights) (source : Option ℕ) (done : IsPagePrepared mid new to page number rights source) (fits : FitsProc process) (small : from < 16)
@@ -370,11 +292,17 @@ module _ {Rest : Type 0} (h new : Held Rest) (from to : ℕ) (process : ProcRec)
         let frame = h.records.map.pool_base + copied.number in
         let entry = entry_there new.records to page (leaf_word frame rights) low_linked high_linked (held_placed process page rights fits held).0 copied.entry in
         let number : frame - new.records.map.pool_base ≡ copied.number = rw pool (omega arith) in
-        frame_there new.records to page frame child rights entry (same page ∙ held) (omega (arith, pool)) (rw number copied.owner)
+        frame_there new.records to child page frame (record {
+          rights = rights;
+          held = same page ∙ held;
+          entry = entry;
+          of_users = omega (arith, pool);
+          claimed = rw number copied.owner;
+        })
 
     framed : (page : ℕ) → page < below → is_some (region_of process page) ≡ true → (frame : ℕ) × (frame_of new.records to child page ≡ Some frame)
     framed page less is =
-        let one = held_one (region_of process page) is in
+        let one = is_there (region_of process page) is in
         let copied = are.pages page one.0 less one.1 in
         (h.records.map.pool_base + copied.number, copy_found page one.0 one.1 copied)
 
@@ -390,7 +318,7 @@ module _ {Rest : Type 0} (h new : Held Rest) (from to : ℕ) (process : ProcRec)
     byte_by page offset (Some rights) small held (inl less) = copied_byte page offset rights small held (are.pages page rights less held)
     byte_by page offset (Some rights) small held (inr none) = absurd (cc (none, held))
     byte_by page offset None small none beyond =
-        rw (no_frame new.records to page child (same page ∙ none), no_frame h.records from page process none) refl
+        rw (frame_behind new.records to page child (same page ∙ none), frame_behind h.records from page process none) refl
 
     byte_same : (a : ℕ) → (a / 4096 < below) ⊎ (region_of process (a / 4096) ≡ None)
         → (pages_of new.records new.contents to child).bytes a ≡ (pages_of h.records h.contents from process).bytes a
@@ -466,20 +394,6 @@ all_below process fits live page =
       | inr behind ↦ inr (region_none process page (inr (omega (arith, low, behind))) (inr behind))
     ]
 
--- what is asked of the process that goes on holds of it
-live_can : (held : Option ProcRec) (process : ProcRec) (Can : ProcRec → Type 0) → held ≡ Some process → is_some (live_one held) ≡ true → IfSome (live_one held) Can → Can process
-live_can held process Can there goes can =
-    let some : is_some (live_one (Some process)) ≡ true = rw there at goes in
-    let if_some : IfSome (live_one (Some process)) Can = rw there at can in
-    elim (cases_Bool (is_live process)) [
-      | inl live ↦ rw live at if_some
-      | inr dead ↦ grind (arith, dead, some)
-    ]
-
-all_pages : (process : ProcRec) → is_live process ≡ true → page_total process ≡ heap_end process - 16 + 4
-unfolding page_total
-all_pages process live = rw live (omega arith)
-
 any_process : (held : Option ProcRec) (Holds : ProcRec → Type 0) → ((process : ProcRec) → Holds process) → IfSome held Holds
 any_process (Some process) Holds each = each process
 any_process None Holds each = tt
@@ -502,7 +416,7 @@ module _ {Rest : Type 0} (h mid : Held Rest) (from to end : ℕ) (process : Proc
 
   room : free_before mid.records 0 + (end - 16) + 4 ≤ free_before mid.records mid.records.map.user_frames
   room =
-      let all = all_pages process can_copy.live in
+      let all = pages_live process can_copy.live in
       let free : free_before mid.records mid.records.map.user_frames ≡ free_before h.records h.records.map.user_frames =
       before_kept h.records mid.records mid.records.map.user_frames keeps
       ∙ ap (λ (map : MemoryMap). free_before h.records map.user_frames) keeps.map in

@@ -1,6 +1,5 @@
 -- Pages of zeros that are prepared behind a heap, one after the other.
-use Rattle.std.proofs.Common.{◌≡◌, ◌≢◌, ℕ, suc, ◌+◌, ◌-◌, ◌/◌, ◌%◌, ◌^◌, ◌<◌, ◌≤◌, Bool, true, false, ◌==◌, ◌&&◌, if◌then◌else◌, Option, Some, None, IfSome, IfNone, is_some, refl, sym, ap, ◌∙◌, inl, inr, arith}
-use Rattle.std.specs.Option.{IsSome}
+use Rattle.std.proofs.Common.{◌≡◌, ◌≢◌, ℕ, ◌+◌, ◌-◌, ◌/◌, ◌%◌, ◌^◌, ◌<◌, ◌≤◌, true, false, ◌==◌, ◌&&◌, if◌then◌else◌, Option, Some, None, IfSome, IfNone, is_some, refl, sym, ap, ◌∙◌, inl, inr, arith}
 use Rattle.std.proofs.Math.Nat.{zero-div}
 use Rattle.std.proofs.lemmas.Bool.{cases_Bool, cases_lt}
 use Rattle.std.proofs.lemmas.Bool.Decides.{nat_tests}
@@ -15,40 +14,26 @@ use Rattle.record_layouts.specs.Least.{IsLeast, NonePasses}
 use Rattle.record_layouts.specs.Unix.State.{is_within}
 use Rattle.record_layouts.specs.Unix.Spaces.{with_zero_pages}
 use Rattle.record_layouts.specs.Held.{Held, Records}
-use Rattle.record_layouts.specs.Pages.{byte_on, claim_of, entry_for, frame_by, frame_of, heap_pages, high_place, is_linked, is_live, is_mapped, leaf_frame, live_one, low_place, owned, page_frame_of, page_total, pages_of, region_of}
+use Rattle.record_layouts.specs.Pages.{byte_on, claim_of, entry_for, frame_by, frame_of, heap_pages, high_place, is_linked, is_live, is_mapped, live_one, low_place, pages_of, region_of}
 use Rattle.record_layouts.specs.Proc.{FitsProc}
 use Rattle.record_layouts.specs.Sound.{IsIn}
 use Rattle.record_layouts.proofs.Frames.{have_all}
 use Rattle.frame_table.specs.Free.{KeepsFrames, free_before, is_free_frame, is_page_of}
-use Rattle.frame_table.proofs.Counting.{low_end, region_none, region_there, values_end}
+use Rattle.frame_table.proofs.Counting.{region_none, region_there, values_end}
 use Rattle.frame_table.proofs.Found.{frame_found}
-use Rattle.frame_table.proofs.Free.{before_next, before_same, before_zero, none_behind}
-use Rattle.frame_table.proofs.Kept.{before_kept, free_same, pages_kept}
-use Rattle.frame_table.proofs.Tables.{HasFrame, HasNone, page_case}
+use Rattle.frame_table.proofs.Free.{before_zero}
+use Rattle.frame_table.proofs.Keeping.{frame_there}
+use Rattle.frame_table.proofs.Kept.{frame_kept, pages_kept}
+use Rattle.frame_table.proofs.Tables.{HasFrame, HasFrames, HasNone, low_entry, mapped_frames, page_case}
 use Rattle.address_space.specs.Preparing.{CanPrepare, IsPageBegun, IsPagePrepared, table_of}
 use Rattle.address_space.specs.Spaces.{CanGrow, HasGrown, IsGrown, IsPartlyGrown, OnlyPrepares, heap_end}
+use Rattle.address_space.proofs.Living.{live_can}
 use Rattle.address_space.proofs.Prepared.{prepares_none, prepares_on}
-
--- how many pages a live process has
-pub pages_live : (process : ProcRec) → is_live process ≡ true → page_total process ≡ process.code_pages + (process.data_pages + heap_pages process) + 4
-unfolding page_total
-pages_live process live = rw live refl
-
-pub end_fits : (process : ProcRec) → FitsProc process → is_live process ≡ true → heap_end process ≤ 1024
-end_fits process fits live = let low = low_end process fits live in omega (arith, low)
-
--- the process of a slot in which one goes on can grow
-live_there : (process : ProcRec) → is_some (live_one (Some process)) ≡ true → is_live process ≡ true
-live_there process goes = elim (cases_Bool (is_live process)) [
-  | inl live ↦ live
-  | inr dead ↦ absurd (cc (rw dead at goes))
-]
+use Rattle.address_space.proofs.Taking.{begun_entries, can_prepare, one_left, one_taken}
 
 pub can_grow : (r : Records) (slot count : ℕ) (process : ProcRec) → r.procs slot ≡ Some process → is_some (live_one (r.procs slot)) ≡ true
     → IfSome (live_one (r.procs slot)) (CanGrow r slot count) → CanGrow r slot count process
-can_grow r slot count process there goes can =
-    let live = live_there process (rw there at goes) in
-    rw (there, live) at can
+can_grow r slot count process there goes can = live_can (r.procs slot) process (CanGrow r slot count) there goes can
 
 -- a page of zeros is prepared in a user frame below one
 pub record IsReady {Rest : Type 0} (now : Held Rest) (slot from page : ℕ) : Type 0 where
@@ -109,15 +94,13 @@ module _ {Rest : Type 0} where
   begun_ready : (h now new : Held Rest) (slot first done from number : ℕ) → AreReady h now slot first done from
       → from ≤ number → OnlyPrepares slot now new → IsPageBegun now new number → AreReady h new slot first done from
   begun_ready h now new slot first done from number are behind prepares begun =
-      let words : (table word : ℕ) → new.records.table_words slot table word ≡ now.records.table_words slot table word =
-      λ table word. ap (λ (r : Records). r.table_words slot table word) begun.records in
       record {
         prepares = prepares_on slot h now new are.prepares prepares;
         within = are.within;
         taken = are.taken;
         each = λ page low high. ready_kept now new slot from from number page behind (omega arith) prepares.pages.records.map
-            begun.owners begun.contents (words 1 page) (are.each page low high);
-        tables = λ table word out. words table word ∙ are.tables table word out;
+            begun.owners begun.contents (begun_entries now new number slot 1 page begun) (are.each page low high);
+        tables = λ table word out. begun_entries now new number slot table word begun ∙ are.tables table word out;
       }
 
   -- the page that is prepared last
@@ -135,11 +118,10 @@ module _ {Rest : Type 0} where
 
   -- one page more is prepared in the next free frame
   page_ready : (h now new : Held Rest) (slot first done from number : ℕ) → AreReady h now slot first done from
-      → first + done < 1024 → from ≤ number → number < h.records.map.user_frames → is_free_frame h.records number ≡ true
-      → NonePasses (is_free_frame h.records) from number
+      → first + done < 1024 → IsLeast (is_free_frame now.records) from h.records.map.user_frames number
       → OnlyPrepares slot now new → IsPagePrepared now new slot (first + done) number Values None
       → AreReady h new slot first (done + 1) (number + 1)
-  page_ready h now new slot first done from number are small behind user free none prepares is =
+  page_ready h now new slot first done from number are small least prepares is =
       let low : (first + done) / 1024 ≡ 0 = omega arith in
       let place : (first + done) % 1024 ≡ first + done = omega arith in
       let base : new.records.map.pool_base ≡ now.records.map.pool_base = ap (λ (m : MemoryMap). m.pool_base) prepares.pages.records.map in
@@ -147,13 +129,12 @@ module _ {Rest : Type 0} where
       λ table word other. is.entries slot table word (other_word slot table word (first + done) low place other) in
       record {
         prepares = prepares_on slot h now new are.prepares prepares;
-        within = omega (arith, user);
-        taken = let next : number + 1 ≡ suc number = omega arith in
-            ap (free_before h.records) next ∙ before_next h.records number free
-            ∙ ap (λ (n : ℕ). n + 1) (before_same h.records from number behind none ∙ are.taken);
+        within = let below = least.to in omega (arith, below);
+        taken = one_taken h.records now.records are.prepares.pages.records from h.records.map.user_frames number least
+            ∙ ap (λ (n : ℕ). n + 1) are.taken;
         each = λ page from_first to. elim (cases_lt page (first + done)) [
           | inl earlier ↦
-              ready_kept now new slot from (number + 1) number page behind (omega arith) prepares.pages.records.map is.owners is.contents
+              ready_kept now new slot from (number + 1) number page least.from (let behind = least.from in omega arith) prepares.pages.records.map is.owners is.contents
               (words 1 page (grind (arith, nat_tests, earlier))) (are.each page from_first earlier)
           | inr last ↦
               let same : page ≡ first + done = omega (arith, last, to) in
@@ -165,13 +146,6 @@ module _ {Rest : Type 0} where
       }
 
 -- the entry of a page of the low table
-entry_linked : (r : Records) (slot page : ℕ) → page < 1024 → is_linked r slot 1 low_place ≡ true → entry_for r slot page ≡ Some (r.table_words slot 1 page)
-unfolding entry_for
-entry_linked r slot page low linked =
-    let first : page / 1024 ≡ 0 = omega arith in
-    let place : page % 1024 ≡ page = omega arith in
-    rw (first, place, linked) refl
-
 entry_unlinked : (r : Records) (slot page : ℕ) → page < 1024 → is_linked r slot 1 low_place ≡ false → entry_for r slot page ≡ None
 unfolding entry_for
 entry_unlinked r slot page low linked =
@@ -180,20 +154,12 @@ entry_unlinked r slot page low linked =
 
 entry_low : (r : Records) (slot page entry : ℕ) → page < 1024 → entry_for r slot page ≡ Some entry → entry ≡ r.table_words slot 1 page
 entry_low r slot page entry low e = elim (cases_Bool (is_linked r slot 1 low_place)) [
-  | inl linked ↦ let found = entry_linked r slot page low linked in cc (found, e)
+  | inl linked ↦ let found = low_entry r slot page linked low in cc (found, e)
   | inr unlinked ↦ let none = entry_unlinked r slot page low unlinked in absurd (cc (none, e))
 ]
 
 zero_byte : (k : ℕ) → byte_of 0 k ≡ 0
 zero_byte k = ap (λ (n : ℕ). n % 256) (zero-div (256 ^ k))
-
-leaf_back : (frame : ℕ) → leaf_frame (leaf_word frame Values) Values ≡ Some frame
-leaf_back frame = grind (arith, nat_tests)
-
-owned_there : (r : Records) (slot page number : ℕ) → r.owners number ≡ claim_of slot page → owned r slot page (Some (r.map.pool_base + number)) ≡ Some (r.map.pool_base + number)
-owned_there r slot page number claim =
-    let place : r.map.pool_base + number - r.map.pool_base ≡ number = omega arith in
-    rw (place, claim) (grind (arith, nat_tests))
 
 -- the frame of a page goes by its regions alone
 frame_regions : (r : Records) (slot : ℕ) (process other : ProcRec) (page : ℕ) → region_of other page ≡ region_of process page
@@ -205,24 +171,19 @@ linked_kept : (r new : Records) (slot table place : ℕ) → new.map ≡ r.map �
     → is_linked r slot table place ≡ true → is_linked new slot table place ≡ true
 linked_kept r new slot table place map word linked = rw (word, map) linked
 
-both_linked : (a b c d : Bool) → (a && b && c && d) ≡ true → (a ≡ true) × (b ≡ true)
-both_linked true true c d e = (refl, refl)
-both_linked true false c d e = grind arith
-both_linked false b c d e = grind arith
-
-roots_linked : (r : Records) (slot : ℕ) (process : ProcRec) → is_mapped r slot process ≡ true
-    → (is_linked r slot 1 low_place ≡ true) × (is_linked r slot 2 high_place ≡ true)
-unfolding is_mapped
-roots_linked r slot process mapped = both_linked _ _ _ _ mapped
-
 -- a page that is prepared, where its process has it
 module _ {Rest : Type 0} (now : Held Rest) (slot from page : ℕ) (process : ProcRec) (low : page < 1024) (held : region_of process page ≡ Some Values)
     (is : IsReady now slot from page) where
   frame_ready : is_linked now.records slot 1 low_place ≡ true → frame_of now.records slot process page ≡ Some (now.records.map.pool_base + is.number)
-  unfolding frame_of
   frame_ready linked =
-      let entry = entry_linked now.records slot page low linked ∙ ap Some is.entry in
-      rw (entry, held) (ap (owned now.records slot page) (leaf_back (now.records.map.pool_base + is.number)) ∙ owned_there now.records slot page is.number is.owner)
+      let place : now.records.map.pool_base + is.number - now.records.map.pool_base ≡ is.number = omega arith in
+      frame_there now.records slot process page (now.records.map.pool_base + is.number) (record {
+        rights = Values;
+        held = held;
+        entry = low_entry now.records slot page linked low ∙ ap Some is.entry;
+        of_users = omega arith;
+        claimed = ap now.records.owners place ∙ is.owner;
+      })
 
   -- its bytes are 0, also where the tables do not lead to it
   byte_ready : (offset : ℕ) (found : Option ℕ) → offset < 4096 → frame_of now.records slot process page ≡ found → byte_on now.contents offset found ≡ 0
@@ -278,26 +239,15 @@ module _ {Rest : Type 0} (h new : Held Rest) (slot done from : ℕ) (process : P
   pages_grown = pages_ext _ _ (region_grown process grown done has at.live) bytes_grown
 
   -- frames
-  frame_in : (r : Records) (page : ℕ) → r.procs slot ≡ Some process → page_frame_of r slot page ≡ frame_of r slot process page
-  unfolding page_frame_of
-  frame_in r page there = rw there refl
-
-  old_frame : (page : ℕ) → page < 2 ^ 20 → frame_of new.records slot process page ≡ frame_of h.records slot process page
-  old_frame page small =
-      let keeps = are.prepares.pages.records in
-      sym (frame_in new.records page (keeps.procs slot ∙ at.there))
-      ∙ keeps.frames slot page at.within small
-      ∙ frame_in h.records page at.there
-
   module _ (mapped : is_mapped h.records slot process ≡ true) where
-    roots : (is_linked h.records slot 1 low_place ≡ true) × (is_linked h.records slot 2 high_place ≡ true)
-    roots = roots_linked h.records slot process mapped
+    roots : HasFrames h.records slot process
+    roots = mapped_frames h.records slot process mapped
 
     low_linked : is_linked new.records slot 1 low_place ≡ true
-    low_linked = linked_kept h.records new.records slot 1 low_place are.prepares.pages.records.map (are.tables 0 low_place refl) roots.0
+    low_linked = linked_kept h.records new.records slot 1 low_place are.prepares.pages.records.map (are.tables 0 low_place refl) roots.low
 
     high_linked : is_linked new.records slot 2 high_place ≡ true
-    high_linked = linked_kept h.records new.records slot 2 high_place are.prepares.pages.records.map (are.tables 0 high_place refl) roots.1
+    high_linked = linked_kept h.records new.records slot 2 high_place are.prepares.pages.records.map (are.tables 0 high_place refl) roots.high
 
     -- each page of the process that has grown has a frame
     has_frame : (page : ℕ) → page < 2 ^ 20 → is_some (region_of grown page) ≡ true → is_some (frame_of new.records slot grown page) ≡ true
@@ -308,7 +258,7 @@ module _ {Rest : Type 0} (h new : Held Rest) (slot done from : ℕ) (process : P
       | inr out ↦
           let same = region_old process grown done has at.live page out in
           elim (page_case h.records slot process page mapped) [
-            | HasFrame frame found ↦ rw (frame_regions new.records slot process grown page same, old_frame page small, found) refl
+            | HasFrame frame found ↦ rw (frame_regions new.records slot process grown page same, frame_kept h new are.prepares.pages slot process at fits page, found) refl
             | HasNone none ↦ absurd (cc (rw (same, none) at held))
           ]
     ]
@@ -343,49 +293,29 @@ module _ {Rest : Type 0} (h now : Held Rest) (slot count first done from : ℕ) 
   keeps : KeepsFrames h.records now.records
   keeps = are.prepares.pages.records
 
-  users : now.records.map.user_frames ≡ h.records.map.user_frames
-  users = ap (λ (m : MemoryMap). m.user_frames) keeps.map
-
-  -- a frame is left
-  some_free : NonePasses (is_free_frame now.records) from h.records.map.user_frames → ⊥
-  some_free none =
-      let few = none_behind now.records from h.records.map.user_frames (free_before h.records from)
-      (let same = before_kept h.records now.records from keeps in omega (arith, same)) none in
-      let all = before_kept h.records now.records h.records.map.user_frames keeps in
-      absurd (omega (arith, few, all, are.taken, can.frames, more))
-
   small : first + done < 1024
   small = omega (arith, behind, can.room, more)
 
-  pub some_found : (found : Option ℕ) → IfNone found (NonePasses (is_free_frame now.records) from h.records.map.user_frames) → IsSome found
-  some_found (Some number) none = refl
-  some_found None none = absurd (some_free none)
-
-  free_then : (number : ℕ) → is_free_frame now.records number ≡ true → is_free_frame h.records number ≡ true
-  free_then number free = sym (free_same h.records now.records number keeps) ∙ free
-
-  none_then : (number : ℕ) → NonePasses (is_free_frame now.records) from number → NonePasses (is_free_frame h.records) from number
-  none_then number none = record { none = λ k low high. sym (free_same h.records now.records k keeps) ∙ none.none k low high }
+  -- a frame is left
+  pub some_found : (found : Option ℕ) → IfNone found (NonePasses (is_free_frame now.records) from h.records.map.user_frames) → is_some found ≡ true
+  some_found found none =
+      one_left h.records now.records keeps from h.records.map.user_frames (omega (arith, are.taken, can.frames, more)) found none
 
   uncounted : (held : Option ProcRec) → held ≡ Some process → is_page_of (first + done) held ≡ false
   uncounted held there =
       let none = region_none process (first + done) (inr (omega (arith, behind))) (inl (omega (arith, behind, can.room, more))) in
       rw (there, none) refl
 
-  pub can_prepare : (number : ℕ) → slot < 16 → IsLeast (is_free_frame now.records) from h.records.map.user_frames number
+  pub can_prepare_next : (number : ℕ) → slot < 16 → IsLeast (is_free_frame now.records) from h.records.map.user_frames number
       → CanPrepare now.records slot (first + done) number
-  can_prepare number fits least = record {
-    fits = fits;
-    entry = inl (let room = can.room in omega (arith, behind, room, more));
-    uncounted = uncounted (now.records.procs slot) (keeps.procs slot ∙ can.there);
-    within = let below = least.to in omega (arith, below, users);
-    free = least.passes;
-  }
+  can_prepare_next number fits least =
+      can_prepare h.records now.records keeps from h.records.map.user_frames number least slot (first + done) fits
+      (inl (omega (arith, small))) (uncounted (h.records.procs slot) can.there) refl
 
   module _ (new : Held Rest) (number : ℕ) (least : IsLeast (is_free_frame now.records) from h.records.map.user_frames number)
       (prepares : OnlyPrepares slot now new) where
     pub next_ready : IsPagePrepared now new slot (first + done) number Values None → AreReady h new slot first (done + 1) (number + 1)
-    next_ready is = page_ready h now new slot first done from number are small least.from least.to (free_then number least.passes) (none_then number least.below) prepares is
+    next_ready is = page_ready h now new slot first done from number are small least prepares is
 
     -- where it is begun and no more, the pages before it are there
     pub partly_grown : slot < 16 → FitsProc process → IsPageBegun now new number → IfSome (h.records.procs slot) (IsPartlyGrown h new slot count)

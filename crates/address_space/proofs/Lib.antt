@@ -5,9 +5,11 @@ pub mod Reading
 pub mod Bytes
 pub mod Stored
 pub mod Outcomes
+pub mod Living
 pub mod Prepared
 pub mod UserFrames
 pub mod PagesPrepared
 pub mod BareTables
+pub mod Taking
 pub mod Growing
 pub mod Copying

@@ -1,5 +1,5 @@
 -- A page is prepared by three steps: the words of its frame are set, the frame is claimed for the page, and the entry is stored.
-use Rattle.std.proofs.Common.{◌≡◌, ◌≢◌, ℕ, ◌+◌, ◌-◌, ◌*◌, ◌/◌, ◌%◌, ◌^◌, ◌<◌, ◌≤◌, ◌⊎◌, Bool, true, false, nat_lt, ◌==◌, ◌&&◌, if◌then◌else◌, Option, Some, None, is_some, refl, sym, ap, ◌∙◌, inl, inr, arith}
+use Rattle.std.proofs.Common.{◌≡◌, ◌≢◌, ℕ, ◌+◌, ◌-◌, ◌*◌, ◌/◌, ◌%◌, ◌^◌, ◌<◌, ◌≤◌, ◌⊎◌, true, false, nat_lt, ◌==◌, ◌&&◌, if◌then◌else◌, Option, Some, None, is_some, refl, sym, ap, ◌∙◌, inl, inr, arith}
 use Rattle.std.proofs.Math.Path.{fun_ext}
 use Rattle.std.proofs.lemmas.Bool.{cases_Bool, cases_eq}
 use Rattle.std.proofs.lemmas.Bool.Decides.{nat_tests}
@@ -13,6 +13,7 @@ use Rattle.record_layouts.specs.Pages.{claim_of, is_live, region_of, table_frame
 use Rattle.record_layouts.specs.Sound.{is_table_place}
 use Rattle.frame_table.specs.Free.{ClaimsNone, is_free_frame, is_page_of, is_table_word_of}
 use Rattle.frame_table.proofs.Found.{one_claim}
+use Rattle.frame_table.proofs.Keeping.{and_false}
 use Rattle.frame_table.proofs.Kept.{beside_words, frame_words, owner_stored, owner_words, table_stored, table_words}
 use Rattle.address_space.specs.Preparing.{CanPrepare, IsPageBegun, IsPagePrepared, filled, table_of, word_from}
 use Rattle.address_space.specs.Spaces.{OnlyPrepares, is_spare}
@@ -195,10 +196,6 @@ last_unused : (process : ProcRec) (page : ℕ) → page / 1024 ≡ 511 → is_so
 last_unused process page last none =
     let place : 1024 * 511 + page % 1024 ≡ page = omega (arith, last) in
     rw (last, place, none) refl
-
-and_false : (a b : Bool) → b ≡ false → (a && b) ≡ false
-and_false true b e = e
-and_false false b e = refl
 
 place_unused : (process : Option ProcRec) (page : ℕ) → (page / 1024 ≡ 0) ⊎ (page / 1024 ≡ 511) → is_page_of page process ≡ false
     → is_table_word_of (table_of page) (page % 1024) process ≡ false

@@ -1,7 +1,7 @@
--- What only prepares pages, one thing after the other.
+-- What only prepares pages, and what stores nothing, one thing after the other.
 use Rattle.std.proofs.Common.{◌≡◌, ℕ, ◌-◌, Bool, nat_lt, not, ◌&&◌, refl, ap, ◌∙◌}
 use Rattle.record_layouts.specs.declared.memory_map.MemoryMap.{MemoryMap}
-use Rattle.record_layouts.specs.Held.{Held, Records}
+use Rattle.record_layouts.specs.Held.{Held, Records, StaysUnstored}
 use Rattle.frame_table.specs.Free.{KeepsFrames, KeepsPages, is_free_frame, is_table_word_of}
 use Rattle.frame_table.proofs.Kept.{free_same, pages_on}
 use Rattle.address_space.specs.Spaces.{OnlyPrepares, is_spare}
@@ -45,3 +45,10 @@ prepares_on slot h middle new one two = record {
   disk = two.disk ∙ one.disk;
   rest = two.rest ∙ one.rest;
 }
+
+-- nothing is stored by either
+pub unstored_on : {Rest : Type 0} (one two three : ℕ) (h middle new : Held Rest) → StaysUnstored one two h middle → StaysUnstored two three middle new → StaysUnstored one three h new
+unstored_on one two three h middle new first second none =
+    let after = second none in
+    let before = first after.0 in
+    (before.0, after.1 ∙ before.1)

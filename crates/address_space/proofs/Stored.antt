@@ -1,7 +1,7 @@
 -- Bytes of a process that are stored: what one word does, and one after the other.
-use Rattle.std.proofs.Common.{◌≡◌, ◌≢◌, ℕ, ◌+◌, ◌-◌, ◌/◌, ◌%◌, ◌^◌, ◌<◌, ◌≤◌, ◌==◌, ◌&&◌, nat_lt, true, false, if◌then◌else◌, List, [], ◌++◌, length, get_or, take, drop, length-take-le, Option, Some, None, is_some, Result, Ok, Err, OnErr, refl, sym, ap, ◌∙◌, inl, inr, arith}
+use Rattle.std.proofs.Common.{◌≡◌, ◌≢◌, ℕ, ◌+◌, ◌-◌, ◌/◌, ◌%◌, ◌^◌, ◌<◌, ◌≤◌, ◌==◌, ◌&&◌, nat_lt, true, false, if◌then◌else◌, List, [], ◌++◌, length, get_or, take, drop, length-take-le, Option, Some, None, is_some, refl, sym, ap, ◌∙◌, inl, inr, arith}
 use Rattle.std.specs.Option.{unwrap_or}
-use Rattle.std.proofs.lemmas.Bool.{cases_Bool, cases_eq, cases_lt}
+use Rattle.std.proofs.lemmas.Bool.{cases_Bool, cases_eq}
 use Rattle.std.proofs.lemmas.Bool.Decides.{nat_tests}
 use Rattle.std.proofs.lemmas.Grind.{common_steps}
 use Rattle.ow_base.specs.Pages.{rights_at}
@@ -16,16 +16,15 @@ use Rattle.record_layouts.specs.Pages.{claim_of, entry_for, frame_if, page_frame
 use Rattle.record_layouts.specs.Unix.Spaces.{with_bytes}
 use Rattle.record_layouts.specs.Unix.State.{is_within}
 use Rattle.frame_table.specs.Maps.{framed_pages, map_if, map_in, map_of, mapping_by}
-use Rattle.frame_table.proofs.Found.{frame_found, one_page_in_slots}
-use Rattle.frame_table.proofs.Tables.{map_found}
+use Rattle.frame_table.proofs.Found.{one_page_in_slots}
+use Rattle.frame_table.proofs.Keeping.{frame_there, page_found}
+use Rattle.frame_table.proofs.Tables.{map_found, owned_below, some_same}
 use Rattle.address_space.specs.Spaces.{IsPut}
 use Rattle.address_space.specs.Writable.{are_values, is_writable}
 use Rattle.address_space.specs.declared.access.Access.TheVariants.{Write}
 use Rattle.address_space.proofs.Bytes.{taken_on, taken_partly, with_bytes_on, with_no_bytes}
+use Rattle.address_space.proofs.Prepared.{unstored_on}
 use Rattle.address_space.proofs.Reading.{shut_at}
-
-some_same : (one other : ℕ) → Some one ≡ Some other → one ≡ other
-some_same one other e = grind arith
 
 -- a page is mapped where it has a frame, and to that frame
 frame_mapped : (frame : Option ℕ) (rights : Option Rights) (m : Mapping) → mapping_by frame rights ≡ Some m → frame ≡ Some m.frame
@@ -56,32 +55,24 @@ module _ (r : Records) (slot page : ℕ) where
     of_users : r.map.pool_base ≤ frame
     claimed : r.owners (frame - r.map.pool_base) ≡ claim_of slot page
 
-  found_if : (process : Option ProcRec) (frame : ℕ) → r.procs slot ≡ process → frame_if r slot page process ≡ Some frame → HasFrame frame
-  unfolding map_in
-  found_if (Some process) frame is e =
-      let f = frame_found r slot process page frame e in
-      record {
-        small = entry_small r slot page _ f.entry;
-        mapping = record { frame = frame; rights = f.rights };
-        there = rw is (map_found r slot process page frame f.rights e f.held);
-        of_users = f.of_users;
-        claimed = f.claimed;
-      }
-  found_if None frame is e = grind arith
-
   has_frame : (frame : ℕ) → page_frame_of r slot page ≡ Some frame → HasFrame frame
-  unfolding page_frame_of
-  has_frame frame e = found_if (r.procs slot) frame refl e
+  unfolding map_in
+  has_frame frame e =
+      let f = page_found r slot page frame e in
+      record {
+        small = entry_small r slot page _ f.is.entry;
+        mapping = record { frame = frame; rights = f.is.rights };
+        there = rw f.there (map_found r slot f.process page frame f.is.rights (frame_there r slot f.process page frame f.is) f.is.held);
+        of_users = f.is.of_users;
+        claimed = f.is.claimed;
+      }
 
   -- such a frame is a user frame: it lies beside the area, and all its words are there
   pub frame_beside : (words : WordMap) (frame : ℕ) → AreOfMemory r words → page_frame_of r slot page ≡ Some frame → IsBeside r words frame
   frame_beside words frame memory e =
       let f = has_frame frame e in
       let number : ℕ = frame - r.map.pool_base in
-      let user : number < r.map.user_frames = elim (cases_lt number r.map.user_frames) [
-        | inl below ↦ below
-        | inr past ↦ let none = memory.no_owner number past in absurd (omega (arith, sym f.claimed ∙ none))
-      ] in
+      let user : number < r.map.user_frames = owned_below r words slot page number memory f.claimed in
       let place : r.map.pool_base + number ≡ frame = omega (arith, f.of_users) in
       record {
         there = λ word small. rw place at (memory.whole number word user small);
@@ -103,8 +94,8 @@ module _ (r : Records) (words : WordMap) (slot address count : ℕ) (writable : 
       (ap is_some found, (has_frame r slot page m.frame found).small)
   mapped_there page None is values = grind arith
 
-  pub frame_there : (k : ℕ) → k < count → (is_some (page_frame_of r slot ((address + k) / 4096)) ≡ true) × ((address + k) / 4096 < 2 ^ 20)
-  frame_there k below = mapped_there ((address + k) / 4096) _ refl (values_at k below)
+  pub frame_where_writable : (k : ℕ) → k < count → (is_some (page_frame_of r slot ((address + k) / 4096)) ≡ true) × ((address + k) / 4096 < 2 ^ 20)
+  frame_where_writable k below = mapped_there ((address + k) / 4096) _ refl (values_at k below)
 
 -- one word of the frame in which a page lies is stored
 module _ {Rest : Type 0} (h : Held Rest) (slot frame address value : ℕ) (bytes : List ℕ)
@@ -227,12 +218,6 @@ module _ {Rest : Type 0} (slot address : ℕ) (bytes : List ℕ) where
 
   module _ (h m n : Held Rest) (before made later done end : ℕ) (so_far : IsPutSoFar h m before made slot address bytes done)
       (on : done ≤ end) (within : end ≤ length bytes) (unstored : StaysUnstored made later m n) where
-    still_unstored : StaysUnstored before later h n
-    still_unstored none =
-        let second = unstored none in
-        let first = so_far.unstored second.0 in
-        (first.0, second.1 ∙ first.1)
-
     long : length (take done bytes) ≡ done
     long = length-take-le done bytes so_far.within
 
@@ -240,7 +225,7 @@ module _ {Rest : Type 0} (slot address : ℕ) (bytes : List ℕ) where
     so_far_on put = record {
       within = within;
       put = rw (taken_on bytes done end on) at (put_on slot address h m n (take done bytes) _ done long so_far.put put);
-      unstored = still_unstored;
+      unstored = unstored_on before made later h m n so_far.unstored unstored;
     }
 
     -- a part of the bytes that come next is stored
@@ -249,8 +234,3 @@ module _ {Rest : Type 0} (slot address : ℕ) (bytes : List ℕ) where
     so_far_left count below put =
         let part : length (take (end - done) (drop done bytes)) ≡ end - done = grind (arith, common_steps) in
         (done + count, omega (arith, part), rw (taken_partly bytes done end count on (omega (arith, part))) at (put_on slot address h m n (take done bytes) _ done long so_far.put put))
-
--- what is left at an error
-pub at_err : {T E : Type 0} (r : Result T E) (P : Type 0) → P → OnErr r P
-at_err (Ok x) P left = tt
-at_err (Err e) P left = left

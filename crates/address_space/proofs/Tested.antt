@@ -1,5 +1,6 @@
 -- Ranges of bytes of which each is tested.
 use Rattle.std.proofs.Common.{◌≡◌, ℕ, zero, suc, ◌+◌, ◌<◌, Bool, true, false, ◌&&◌, refl, ◌∙◌, arith, add-zero}
+use Rattle.frame_table.proofs.Keeping.{and_false}
 
 both_true : (a b : Bool) → a ≡ true → b ≡ true → (a && b) ≡ true
 both_true true true p q = refl
@@ -9,10 +10,6 @@ both_true false b p q = p
 first_false : (a b : Bool) → a ≡ false → (a && b) ≡ false
 first_false true b p = grind arith
 first_false false b p = refl
-
-second_false : (a b : Bool) → b ≡ false → (a && b) ≡ false
-second_false true b p = p
-second_false false b p = refl
 
 -- a test of a range that asks a test of each of its places
 module _ (test : ℕ → Bool) (whole : ℕ → ℕ → Bool) (none : (a : ℕ) → whole a zero ≡ true) (more : (a n : ℕ) → whole a (suc n) ≡ (test a && whole (a + 1) n)) where
@@ -29,4 +26,4 @@ module _ (test : ℕ → Bool) (whole : ℕ → ℕ → Bool) (none : (a : ℕ) 
   whole_false a (suc n) zero below not = more a n ∙ first_false (test a) (whole (a + 1) n) (rw add-zero at not)
   whole_false a (suc n) (suc k) below not =
       let place : a + suc k ≡ (a + 1) + k = omega arith in
-      more a n ∙ second_false (test a) (whole (a + 1) n) (whole_false (a + 1) n k (omega arith) (rw place at not))
+      more a n ∙ and_false (test a) (whole (a + 1) n) (whole_false (a + 1) n k (omega arith) (rw place at not))

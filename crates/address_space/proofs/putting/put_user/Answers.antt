@@ -1,5 +1,6 @@
 use Rattle.std.proofs.Common.{◌<◌, length, refl, ◌∙◌, arith}
-use Rattle.address_space.proofs.Stored.{at_err, frame_there, so_far_left, so_far_none, so_far_on}
+use Rattle.address_space.proofs.Outcomes.{at_err}
+use Rattle.address_space.proofs.Stored.{frame_where_writable, so_far_left, so_far_none, so_far_on}
 use Rattle.address_space.proofs.putting.put_user.Goals as goal
 
 pub loop-done-init : goal.loop-done-init
@@ -13,21 +14,21 @@ loop-done-init g c = record {
 pub overflow_cast-place : goal.overflow_cast-place
 overflow_cast-place g c =
     let below : c.loop-done.done < length c.args.bytes.now = omega arith in
-    let there = frame_there (g.W.RecordView.records c.args.live.now) (g.W.WordSource.words c.args.live.now) c.args.slot c.args.addr
+    let there = frame_where_writable (g.W.RecordView.records c.args.live.now) (g.W.WordSource.words c.args.live.now) c.args.slot c.args.addr
     (length c.args.bytes.now) c.requires.writable c.loop-done.done below in
     omega (arith, there.1)
 
 pub overflow_add-place : goal.overflow_add-place
 overflow_add-place g c =
     let below : c.loop-done.done < length c.args.bytes.now = omega arith in
-    let there = frame_there (g.W.RecordView.records c.args.live.now) (g.W.WordSource.words c.args.live.now) c.args.slot c.args.addr
+    let there = frame_where_writable (g.W.RecordView.records c.args.live.now) (g.W.WordSource.words c.args.live.now) c.args.slot c.args.addr
     (length c.args.bytes.now) c.requires.writable c.loop-done.done below in
     omega (arith, there.1)
 
 pub put_in_page-requires-clause-page : goal.put_in_page-requires-clause-page
 put_in_page-requires-clause-page g c =
     let below : c.loop-done.done < length c.args.bytes.now = omega arith in
-    let there = frame_there (g.W.RecordView.records c.args.live.now) (g.W.WordSource.words c.args.live.now) c.args.slot c.args.addr
+    let there = frame_where_writable (g.W.RecordView.records c.args.live.now) (g.W.WordSource.words c.args.live.now) c.args.slot c.args.addr
     (length c.args.bytes.now) c.requires.writable c.loop-done.done below in
     rw c.loop-done.invariant.so_far.put.records there.0
 

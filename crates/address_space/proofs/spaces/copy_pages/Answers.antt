@@ -1,31 +1,33 @@
 use Rattle.std.proofs.Common.{◌≡◌, sym, ◌∙◌, arith}
 use Rattle.record_layouts.specs.Held.{held_by}
-use Rattle.record_layouts.specs.Least.{IsLeast, NonePasses}
+use Rattle.record_layouts.specs.Least.{IsLeast}
 use Rattle.record_layouts.specs.Pages.{region_of}
 use Rattle.frame_table.specs.Free.{is_free_frame}
-use Rattle.address_space.proofs.Copying.{at_err, begun_stays, can_prepare, counted_next, found_is, found_one, held_one, held_placed, one_is_free, page_more, source_of_users, unstored_on}
-use Rattle.address_space.proofs.Prepared.{prepares_on}
+use Rattle.frame_table.proofs.Tables.{is_there}
+use Rattle.address_space.proofs.Copying.{begun_stays, counted_next, found_one, held_placed, one_is_free, page_more, source_of_users, unused_holds_none}
+use Rattle.address_space.proofs.Outcomes.{at_err}
+use Rattle.address_space.proofs.Prepared.{prepares_on, unstored_on}
+use Rattle.address_space.proofs.Taking.{can_prepare}
 use Rattle.address_space.proofs.spaces.copy_pages.Goals as goal
 
 pub unwrap-number-requires : goal.unwrap-number-requires
 unwrap-number-requires g c =
     let is = c.loop-page.invariant in
     let room = rw (← c.user_frames-user_frames.ensures) at c.requires.frames in
-    let mid = g.W.RecordView.records c.loop-page.live in
-    found_is (NonePasses (is_free_frame mid) c.loop-page.next c.user_frames-user_frames.result) c.next_free.result c.next_free.ensures.none (one_is_free (g.W.RecordView.records c.args.live.now) (g.W.RecordView.records c.loop-page.live)
+    one_is_free (g.W.RecordView.records c.args.live.now) (g.W.RecordView.records c.loop-page.live)
     is.prepares.pages.records c.args.taken c.loop-page.next c.args.first c.loop-page.page is.counted is.behind
-    c.args.end c.user_frames-user_frames.result room c.loop-page-test.true)
+    c.args.end c.user_frames-user_frames.result room c.loop-page-test.true c.next_free.result c.next_free.ensures.none
 
 pub region-requires-clause-page : goal.region-requires-clause-page
 region-requires-clause-page g c =
     let page = c.loop-page.page in
-    let one = held_one (region_of c.args.process.now page) (c.requires.held page c.loop-page.invariant.behind c.loop-page-test.true) in
+    let one = is_there (region_of c.args.process.now page) (c.requires.held page c.loop-page.invariant.behind c.loop-page-test.true) in
     (held_placed c.args.process.now page one.0 c.requires.fits one.1).1
 
 pub frame_of_page-source-requires-clause-page : goal.frame_of_page-source-requires-clause-page
 frame_of_page-source-requires-clause-page g c =
     let page = c.loop-page.page in
-    let one = held_one (region_of c.args.process.now page) (c.requires.held page c.loop-page.invariant.behind c.loop-page-test.true) in
+    let one = is_there (region_of c.args.process.now page) (c.requires.held page c.loop-page.invariant.behind c.loop-page-test.true) in
     (held_placed c.args.process.now page one.0 c.requires.fits one.1).1
 
 pub prepare_page-requires-clause-can : goal.prepare_page-requires-clause-can
@@ -34,10 +36,10 @@ prepare_page-requires-clause-can g c =
     let held = sym c.region.ensures ∙ c.unwrap-rights.ensures in
     let least = found_one (IsLeast (is_free_frame mid) c.loop-page.next c.user_frames-user_frames.result) c.next_free.result c.unwrap-number.result
     c.unwrap-number.ensures c.next_free.ensures.found in
-    can_prepare (g.W.RecordView.records c.args.live.now) mid c.args.to c.loop-page.page c.unwrap-number.result c.loop-page.next
-    c.user_frames-user_frames.result c.loop-page.invariant.prepares.pages.records c.requires.to
-    (held_placed c.args.process.now c.loop-page.page c.unwrap-rights.result c.requires.fits held).0 c.requires.unused
-    c.user_frames-user_frames.ensures least
+    can_prepare (g.W.RecordView.records c.args.live.now) mid c.loop-page.invariant.prepares.pages.records c.loop-page.next
+    c.user_frames-user_frames.result c.unwrap-number.result least c.args.to c.loop-page.page c.requires.to
+    (held_placed c.args.process.now c.loop-page.page c.unwrap-rights.result c.requires.fits held).0
+    (unused_holds_none c.loop-page.page _ c.requires.unused) c.user_frames-user_frames.ensures
 
 pub prepare_page-requires-clause-source : goal.prepare_page-requires-clause-source
 prepare_page-requires-clause-source g c =

@@ -1,6 +1,7 @@
 use Rattle.std.proofs.Common.{sym, ◌∙◌}
 use Rattle.record_layouts.specs.Held.{held_by}
-use Rattle.address_space.proofs.Copying.{at_err, held_in_front, held_in_stack, partly_bare, partly_in_front, partly_in_stack, room_of_front, room_of_stack, whole_process}
+use Rattle.address_space.proofs.Copying.{held_in_front, held_in_stack, partly_bare, partly_in_front, partly_in_stack, room_of_front, room_of_stack, whole_process}
+use Rattle.address_space.proofs.Outcomes.{at_err}
 use Rattle.address_space.proofs.Prepared.{prepares_on}
 use Rattle.address_space.proofs.spaces.copy_space.Goals as goal
 

@@ -1,6 +1,7 @@
-use Rattle.std.proofs.Common.{Result, Ok, Err, OnErr, refl, sym, ◌∙◌, arith}
-use Rattle.address_space.proofs.Prepared.{prepares_on}
-use Rattle.address_space.proofs.Growing.{all_grown, can_grow, can_prepare, first_ready, next_ready, partly_grown, some_found}
+use Rattle.std.proofs.Common.{refl, sym, ◌∙◌, arith}
+use Rattle.address_space.proofs.Outcomes.{at_err}
+use Rattle.address_space.proofs.Prepared.{prepares_on, unstored_on}
+use Rattle.address_space.proofs.Growing.{all_grown, can_grow, can_prepare_next, first_ready, next_ready, partly_grown, some_found}
 use Rattle.address_space.proofs.spaces.grow.Goals as goal
 
 pub loop-done-init : goal.loop-done-init
@@ -24,13 +25,9 @@ pub prepare_page-requires-clause-can : goal.prepare_page-requires-clause-can
 prepare_page-requires-clause-can g c =
     let there = sym c.proc.ensures.record ∙ c.unwrap-process.ensures in
     let can = can_grow _ c.args.slot c.args.count c.unwrap-process.result there c.requires.goes c.requires.can in
-    can_prepare _ _ c.args.slot c.args.count c.heap_end-first.result c.loop-done.done c.loop-done.from c.unwrap-process.result can
+    can_prepare_next _ _ c.args.slot c.args.count c.heap_end-first.result c.loop-done.done c.loop-done.from c.unwrap-process.result can
     c.heap_end-first.ensures c.loop-done-test.true c.loop-done.invariant.ready c.unwrap-number.result c.requires.slot
     (rw (c.unwrap-number.ensures, c.user_frames-user_frames.ensures) at c.next_free.ensures.found)
-
-at_err : {T E : Type 0} → (r : Result T E) (P : Type 0) → P → OnErr r P
-at_err (Ok x) P p = tt
-at_err (Err e) P p = p
 
 pub returns-in_err-prepare_page-clause-err : goal.returns-in_err-prepare_page-clause-err
 returns-in_err-prepare_page-clause-err g c =
@@ -57,10 +54,7 @@ loop-done-preserved g c =
           c.in_ok-prepare_page.ensures.ok;
       able = c.in_ok-prepare_page.ensures.stays;
       stands = c.prepare_page.ensures.still_stands;
-      unstored = λ none.
-          let last = c.prepare_page.ensures.unstored none in
-          let before = c.loop-done.invariant.unstored last.0 in
-          (before.0, last.1 ∙ before.1);
+      unstored = unstored_on _ _ _ _ _ _ c.loop-done.invariant.unstored c.prepare_page.ensures.unstored;
       place = c.prepare_page.ensures.place ∙ c.loop-done.invariant.place;
     }
 

@@ -1,5 +1,5 @@
 use Rattle.std.proofs.Common.{arith}
-use Rattle.address_space.proofs.Growing.{end_fits, pages_live}
+use Rattle.address_space.proofs.Living.{end_fits, pages_live}
 use Rattle.address_space.proofs.spaces.heap_end.Goals as goal
 
 pub overflow_add-result : goal.overflow_add-result
