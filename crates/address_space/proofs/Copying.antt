@@ -13,21 +13,21 @@ use Rattle.record_layouts.specs.Least.{IsLeast, NonePasses}
 use Rattle.record_layouts.specs.Memory.{AreOfMemory}
 use Rattle.record_layouts.specs.Pages.{byte_on, entry_for, frame_of, heap_pages, is_linked, is_live, is_mapped, live_one, page_frame_of, pages_of, region_of}
 use Rattle.record_layouts.specs.Proc.{FitsProc}
-use Rattle.record_layouts.specs.Sound.{is_table_place}
-use Rattle.record_layouts.proofs.Frames.{have_all}
+use Rattle.record_layouts.specs.Sound.{IsIn, is_table_place}
 use Rattle.frame_table.specs.Free.{KeepsFrames, free_before, is_free_frame, is_page_of}
-use Rattle.frame_table.proofs.Counting.{held_lives, in_or_out, low_end, region_dead, region_none, region_there, values_end}
+use Rattle.frame_table.proofs.Counting.{behind_none, held_lives, in_or_out, low_end, region_dead, region_none, region_there}
 use Rattle.frame_table.proofs.Found.{frame_found}
 use Rattle.frame_table.proofs.Free.{before_zero}
 use Rattle.frame_table.proofs.Keeping.{frame_there}
-use Rattle.frame_table.proofs.Kept.{before_kept, frame_behind, frame_in}
-use Rattle.frame_table.proofs.Tables.{is_there, owned_below}
+use Rattle.frame_table.proofs.Kept.{before_kept, frame_behind, frame_in, frame_kept}
+use Rattle.frame_table.proofs.Tables.{is_there, mapped_where_held}
 use Rattle.address_space.specs.Copying.{ArePagesCopied, IsPageCopied, IsRangeCopied, IsRangePartlyCopied}
 use Rattle.address_space.specs.Preparing.{AreTablesBare, AreTablesPartlyBare, IsPageBegun, IsPagePrepared, IsUserFrame, bare_word, table_of, word_from}
 use Rattle.address_space.specs.Spaces.{CanCopy, HasGrown, IsCopied, IsCopiedBelow, IsPartlyCopied, OnlyPrepares, heap_end, page_at}
 use Rattle.address_space.proofs.Living.{live_can, pages_live, unused_dead}
 use Rattle.address_space.proofs.Prepared.{prepares_on}
 use Rattle.address_space.proofs.Taking.{IsPlaced, begun_entries, one_left, one_taken}
+use Rattle.address_space.proofs.UserFrames.{found_user}
 
 -- where the entry of a page is
 
@@ -91,9 +91,7 @@ entry_there r slot page word low high (inr last) e = let at : r.table_words slot
 pub source_of_users : (r : Records) (words : WordMap) (slot page : ℕ) (process : ProcRec) (source : Option ℕ) → AreOfMemory r words
     → source ≡ frame_of r slot process page → IfSome source (IsUserFrame r)
 source_of_users r words slot page process (Some frame) of e =
-    let f = frame_found r slot process page frame (sym e) in
-    let below = owned_below r words slot page (frame - r.map.pool_base) of f.claimed in
-    (f.of_users, omega (arith, f.of_users, below))
+    found_user r words of slot process page frame (frame_found r slot process page frame (sym e))
 source_of_users r words slot page process None of e = tt
 
 -- free frames
@@ -154,18 +152,23 @@ module _ {Rest : Type 0} (h mid new : Held Rest) (from to : ℕ) (process : Proc
     placed : IsPlaced page
     placed = (held_placed process page rights fits held).0
 
+    of_source : IsIn h.records from process
+    of_source = record {
+      within = small;
+      there = sym (are.prepares.pages.records.procs from) ∙ there;
+      live = held_lives process page rights held;
+    }
+
     -- the page's frame is what it was at first, and has the words that it had
-    frame_kept : page_frame_of h.records from page ≡ source
-    frame_kept =
-        sym (are.prepares.pages.records.frames from page small (held_placed process page rights fits held).1)
-        ∙ frame_in mid.records from page process there ∙ sym is
+    first_frame : source ≡ frame_of h.records from process page
+    first_frame = is ∙ frame_kept h mid are.prepares.pages from process of_source fits page
+
+    first_found : page_frame_of h.records from page ≡ source
+    first_found = frame_in h.records from page process of_source.there ∙ sym first_frame
 
     words_kept : (found : Option ℕ) (word : ℕ) → page_frame_of h.records from page ≡ found → word_from mid.contents found word ≡ word_from h.contents found word
     words_kept (Some frame) word e = ap word_or_zero (are.prepares.pages.contents from page frame word small (held_placed process page rights fits held).1 e)
     words_kept None word e = refl
-
-    first_frame : source ≡ frame_of h.records from process page
-    first_frame = sym frame_kept ∙ frame_in h.records from page process (sym (are.prepares.pages.records.procs from) ∙ there)
 
     this_page : IsPageCopied h new from to process (number + 1) page rights
     this_page = record {
@@ -176,7 +179,7 @@ module _ {Rest : Type 0} (h mid new : Held Rest) (from to : ℕ) (process : Proc
       words = λ word small.
           ap (λ (place : ℕ). word_or_zero (new.contents (place + number) word)) (sym base)
           ∙ ap word_or_zero (done.frame word small)
-          ∙ words_kept source word frame_kept
+          ∙ words_kept source word first_found
           ∙ ap (λ found. word_from h.contents found word) first_frame;
     }
 
@@ -339,13 +342,7 @@ module _ {Rest : Type 0} (h new : Held Rest) (from to : ℕ) (process : ProcRec)
           ]
 
       all_mapped : is_mapped new.records to child ≡ true
-      unfolding is_mapped
-      all_mapped =
-          let front = have_all new.records to child 16 (child.code_pages + (child.data_pages + heap_pages child)) (values_end child) refl
-          (λ page up less. there page (region_there child page grown.live (inl (up, less)))) in
-          let stack = have_all new.records to child 0x7fffc 4 0x80000 refl
-          (λ page up less. there page (region_there child page grown.live (inr (up, less)))) in
-          rw (low_linked, high_linked, front, stack) refl
+      all_mapped = mapped_where_held new.records to child grown.live low_linked high_linked there
 
     all_clean : (table word : ℕ) → table < 3 → word < 1024 → is_table_place child table word ≡ false → new.records.table_words to table word ≡ 0
     all_clean table word few small unused = elim (cases_eq table 0) [
@@ -388,10 +385,9 @@ bare_partly h new from to process bare = (
 -- no page of a process lies behind the stack
 all_below : (process : ProcRec) → FitsProc process → is_live process ≡ true → (page : ℕ) → (page < 0x80000) ⊎ (region_of process page ≡ None)
 all_below process fits live page =
-    let low = low_end process fits live in
     elim (cases_lt page 0x80000) [
       | inl less ↦ inl less
-      | inr behind ↦ inr (region_none process page (inr (omega (arith, low, behind))) (inr behind))
+      | inr behind ↦ inr (behind_none process page fits live behind)
     ]
 
 any_process : (held : Option ProcRec) (Holds : ProcRec → Type 0) → ((process : ProcRec) → Holds process) → IfSome held Holds

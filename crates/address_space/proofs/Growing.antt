@@ -14,17 +14,16 @@ use Rattle.record_layouts.specs.Least.{IsLeast, NonePasses}
 use Rattle.record_layouts.specs.Unix.State.{is_within}
 use Rattle.record_layouts.specs.Unix.Spaces.{with_zero_pages}
 use Rattle.record_layouts.specs.Held.{Held, Records}
-use Rattle.record_layouts.specs.Pages.{byte_on, claim_of, entry_for, frame_by, frame_of, heap_pages, high_place, is_linked, is_live, is_mapped, live_one, low_place, pages_of, region_of}
+use Rattle.record_layouts.specs.Pages.{byte_on, claim_of, entry_for, frame_by, frame_of, high_place, is_linked, is_live, is_mapped, live_one, low_place, pages_of, region_of}
 use Rattle.record_layouts.specs.Proc.{FitsProc}
 use Rattle.record_layouts.specs.Sound.{IsIn}
-use Rattle.record_layouts.proofs.Frames.{have_all}
 use Rattle.frame_table.specs.Free.{KeepsFrames, free_before, is_free_frame, is_page_of}
-use Rattle.frame_table.proofs.Counting.{region_none, region_there, values_end}
+use Rattle.frame_table.proofs.Counting.{region_none}
 use Rattle.frame_table.proofs.Found.{frame_found}
 use Rattle.frame_table.proofs.Free.{before_zero}
 use Rattle.frame_table.proofs.Keeping.{frame_there}
 use Rattle.frame_table.proofs.Kept.{frame_kept, pages_kept}
-use Rattle.frame_table.proofs.Tables.{HasFrame, HasFrames, HasNone, low_entry, mapped_frames, page_case}
+use Rattle.frame_table.proofs.Tables.{HasFrame, HasFrames, HasNone, low_entry, mapped_frames, mapped_where_held, page_case}
 use Rattle.address_space.specs.Preparing.{CanPrepare, IsPageBegun, IsPagePrepared, table_of}
 use Rattle.address_space.specs.Spaces.{CanGrow, HasGrown, IsGrown, IsPartlyGrown, OnlyPrepares, heap_end}
 use Rattle.address_space.proofs.Living.{live_can}
@@ -250,8 +249,8 @@ module _ {Rest : Type 0} (h new : Held Rest) (slot done from : ℕ) (process : P
     high_linked = linked_kept h.records new.records slot 2 high_place are.prepares.pages.records.map (are.tables 0 high_place refl) roots.high
 
     -- each page of the process that has grown has a frame
-    has_frame : (page : ℕ) → page < 2 ^ 20 → is_some (region_of grown page) ≡ true → is_some (frame_of new.records slot grown page) ≡ true
-    has_frame page small held = elim (cases_Bool (is_within (heap_end process) done page)) [
+    has_frame : (page : ℕ) → is_some (region_of grown page) ≡ true → is_some (frame_of new.records slot grown page) ≡ true
+    has_frame page held = elim (cases_Bool (is_within (heap_end process) done page)) [
       | inl within ↦
           let ready = ready_at page within in
           rw (frame_ready new slot from page grown ready.0 (region_new process grown done has at.live page within) ready.1 low_linked) refl
@@ -263,20 +262,8 @@ module _ {Rest : Type 0} (h new : Held Rest) (slot done from : ℕ) (process : P
           ]
     ]
 
-    front_frames : (page : ℕ) → 16 ≤ page → page < values_end grown → is_some (frame_of new.records slot grown page) ≡ true
-    front_frames page low high =
-        let last : values_end grown ≡ heap_end process + done = omega (arith, has.code, has.values, has.heap) in
-        has_frame page (omega (arith, last, room)) (region_there grown page has.live (inl (low, high)))
-
-    stack_frames : (page : ℕ) → 0x7fffc ≤ page → page < 0x80000 → is_some (frame_of new.records slot grown page) ≡ true
-    stack_frames page low high = has_frame page (omega arith) (region_there grown page has.live (inr (low, high)))
-
     pub mapped_grown : is_mapped new.records slot grown ≡ true
-    unfolding is_mapped
-    mapped_grown =
-        let front = have_all new.records slot grown 16 (grown.code_pages + (grown.data_pages + heap_pages grown)) (values_end grown) refl front_frames in
-        let stack = have_all new.records slot grown 0x7fffc 4 0x80000 refl stack_frames in
-        rw (low_linked, high_linked, front, stack) refl
+    mapped_grown = mapped_where_held new.records slot grown has.live low_linked high_linked has_frame
 
 -- so many pages are there once the record counts them
 are_grown : {Rest : Type 0} → (h new : Held Rest) (slot done from : ℕ) (process : ProcRec) → IsIn h.records slot process → FitsProc process

@@ -6,31 +6,25 @@ use Rattle.std.proofs.lemmas.Bool.Decides.{nat_tests}
 use Rattle.std.proofs.lemmas.Grind.{common_steps}
 use Rattle.ow_base.specs.Pages.{rights_at}
 use Rattle.ow_base.specs.Sv32.{WordMap, byte_of, word_or_zero}
-use Rattle.ow_base.specs.declared.machine.Rights.{Rights}
 use Rattle.sv32_tables.specs.Spaces.{Mapping, byte_in, rights_in}
 use Rattle.sv32_tables.proofs.Spaces.{pages_ext}
 use Rattle.record_layouts.specs.declared.proc.ProcRec.{ProcRec}
 use Rattle.record_layouts.specs.Held.{Held, IsBeside, Records, StaysUnstored, beside, is_of_area, stored, with_words}
 use Rattle.record_layouts.specs.Memory.{AreOfMemory}
-use Rattle.record_layouts.specs.Pages.{claim_of, entry_for, frame_if, page_frame_of}
+use Rattle.record_layouts.specs.Pages.{entry_for, frame_if, page_frame_of}
 use Rattle.record_layouts.specs.Unix.Spaces.{with_bytes}
 use Rattle.record_layouts.specs.Unix.State.{is_within}
-use Rattle.frame_table.specs.Maps.{framed_pages, map_if, map_in, map_of, mapping_by}
+use Rattle.frame_table.specs.Maps.{framed_pages, map_if, map_in, map_of}
 use Rattle.frame_table.proofs.Found.{one_page_in_slots}
 use Rattle.frame_table.proofs.Keeping.{frame_there, page_found}
-use Rattle.frame_table.proofs.Tables.{map_found, owned_below, some_same}
+use Rattle.frame_table.proofs.Tables.{map_found, map_tells, some_same}
 use Rattle.address_space.specs.Spaces.{IsPut}
 use Rattle.address_space.specs.Writable.{are_values, is_writable}
 use Rattle.address_space.specs.declared.access.Access.TheVariants.{Write}
 use Rattle.address_space.proofs.Bytes.{taken_on, taken_partly, with_bytes_on, with_no_bytes}
 use Rattle.address_space.proofs.Prepared.{unstored_on}
 use Rattle.address_space.proofs.Reading.{shut_at}
-
--- a page is mapped where it has a frame, and to that frame
-frame_mapped : (frame : Option ℕ) (rights : Option Rights) (m : Mapping) → mapping_by frame rights ≡ Some m → frame ≡ Some m.frame
-frame_mapped (Some frame) (Some rights) m e = grind arith
-frame_mapped (Some frame) None m e = grind arith
-frame_mapped None rights m e = grind arith
+use Rattle.address_space.proofs.UserFrames.{found_user, user_beside}
 
 -- no page behind the last address has an entry
 entry_small : (r : Records) (slot page entry : ℕ) → entry_for r slot page ≡ Some entry → page < 2 ^ 20
@@ -40,7 +34,7 @@ entry_small r slot page entry e = grind (arith, nat_tests)
 module _ (r : Records) (slot page : ℕ) where
   frame_by_map : (process : Option ProcRec) (m : Mapping) → map_if r slot page process ≡ Some m → frame_if r slot page process ≡ Some m.frame
   unfolding map_of
-  frame_by_map (Some process) m e = frame_mapped _ _ m e
+  frame_by_map (Some process) m e = (map_tells r slot process page m e).0
   frame_by_map None m e = grind arith
 
   frame_in_map : (m : Mapping) → map_in r slot page ≡ Some m → page_frame_of r slot page ≡ Some m.frame
@@ -52,8 +46,6 @@ module _ (r : Records) (slot page : ℕ) where
     small : page < 2 ^ 20
     mapping : Mapping
     there : map_in r slot page ≡ Some mapping
-    of_users : r.map.pool_base ≤ frame
-    claimed : r.owners (frame - r.map.pool_base) ≡ claim_of slot page
 
   has_frame : (frame : ℕ) → page_frame_of r slot page ≡ Some frame → HasFrame frame
   unfolding map_in
@@ -63,21 +55,13 @@ module _ (r : Records) (slot page : ℕ) where
         small = entry_small r slot page _ f.is.entry;
         mapping = record { frame = frame; rights = f.is.rights };
         there = rw f.there (map_found r slot f.process page frame f.is.rights (frame_there r slot f.process page frame f.is) f.is.held);
-        of_users = f.is.of_users;
-        claimed = f.is.claimed;
       }
 
   -- such a frame is a user frame: it lies beside the area, and all its words are there
   pub frame_beside : (words : WordMap) (frame : ℕ) → AreOfMemory r words → page_frame_of r slot page ≡ Some frame → IsBeside r words frame
   frame_beside words frame memory e =
-      let f = has_frame frame e in
-      let number : ℕ = frame - r.map.pool_base in
-      let user : number < r.map.user_frames = owned_below r words slot page number memory f.claimed in
-      let place : r.map.pool_base + number ≡ frame = omega (arith, f.of_users) in
-      record {
-        there = λ word small. rw place at (memory.whole number word user small);
-        beside = let apart = memory.apart in grind (arith, nat_tests, f.of_users, apart);
-      }
+      let f = page_found r slot page frame e in
+      user_beside r words memory frame (found_user r words memory slot f.process page frame f.is)
 
 -- where a process can write its page has a frame
 module _ (r : Records) (words : WordMap) (slot address count : ℕ) (writable : is_writable (framed_pages r words slot) address count ≡ true) where

@@ -1,9 +1,12 @@
--- The user frames lie behind the area.
+-- The user frames lie behind the area, and the frames of pages are user frames.
 use Rattle.std.proofs.Common.{◌≡◌, ℕ, ◌+◌, ◌-◌, ◌≤◌, false, arith}
 use Rattle.std.proofs.lemmas.Bool.Decides.{nat_tests}
 use Rattle.ow_base.specs.Sv32.{WordMap}
+use Rattle.record_layouts.specs.declared.proc.ProcRec.{ProcRec}
 use Rattle.record_layouts.specs.Held.{IsBeside, Records, is_of_area}
 use Rattle.record_layouts.specs.Memory.{AreOfMemory}
+use Rattle.frame_table.proofs.Found.{IsFrameOf}
+use Rattle.frame_table.proofs.Tables.{owned_below}
 use Rattle.address_space.specs.Preparing.{IsUserFrame}
 
 behind_area : (base frame : ℕ) → base + 64 ≤ frame → is_of_area base frame ≡ false
@@ -20,3 +23,9 @@ module _ (r : Records) (words : WordMap) (of : AreOfMemory r words) where
         there = λ word small. rw place at (of.whole (frame - r.map.pool_base) word (omega (arith, user.0, user.1)) small);
         beside = behind_area r.map.area_base frame (omega (arith, of.apart, user.0));
       }
+
+  -- the frame of a page is a user frame
+  pub found_user : (slot : ℕ) (process : ProcRec) (page frame : ℕ) → IsFrameOf r slot process page frame → IsUserFrame r frame
+  found_user slot process page frame f =
+      let below = owned_below r words slot page (frame - r.map.pool_base) of f.claimed in
+      (f.of_users, omega (arith, f.of_users, below))

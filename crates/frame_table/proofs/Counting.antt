@@ -41,6 +41,12 @@ pub region_dead : (process : ProcRec) (page : ℕ) → is_live process ≡ false
 unfolding region_of
 region_dead process page dead = grind (arith, nat_tests)
 
+-- behind the stack there is no page
+pub behind_none : (process : ProcRec) (page : ℕ) → FitsProc process → is_live process ≡ true → 0x80000 ≤ page → region_of process page ≡ None
+behind_none process page fits live behind =
+    let low = low_end process fits live in
+    region_none process page (inr (omega (arith, low, behind))) (inr behind)
+
 -- a process that has a page goes on
 pub held_lives : (process : ProcRec) (page : ℕ) (rights : Rights) → region_of process page ≡ Some rights → is_live process ≡ true
 held_lives process page rights held = elim (cases_Bool (is_live process)) [

@@ -8,7 +8,7 @@ use Rattle.record_layouts.specs.Held.{Records}
 use Rattle.record_layouts.specs.Proc.{FitsProc}
 use Rattle.record_layouts.specs.Pages.{byte_on, frame_if, is_live}
 use Rattle.frame_table.specs.Maps.{map_if}
-use Rattle.frame_table.proofs.Counting.{low_end, region_dead, region_none}
+use Rattle.frame_table.proofs.Counting.{behind_none, region_dead}
 use Rattle.frame_table.proofs.Found.{frame_found}
 use Rattle.frame_table.proofs.Tables.{map_found, map_unfound, map_unheld}
 
@@ -29,7 +29,7 @@ module _ (r : Records) (slot page : ℕ) where
   -- no page lies behind the last address
   pub none_behind : (process : Option ProcRec) → IfSome process FitsProc → 2 ^ 20 ≤ page → map_if r slot page process ≡ None
   none_behind (Some process) fits high = map_unheld r slot process page (elim (cases_Bool (is_live process)) [
-    | inl live ↦ let low = low_end process fits live in region_none process page (inr (omega arith)) (inr (omega arith))
+    | inl live ↦ behind_none process page fits live (omega arith)
     | inr dead ↦ region_dead process page dead
   ])
   none_behind None fits high = refl

@@ -13,7 +13,7 @@ use Rattle.record_layouts.specs.Proc.{FitsProc}
 use Rattle.record_layouts.specs.Pages.{byte_on, entry_for, frame_by, frame_of, page_frame_of, pages_of, region_of, table_frame}
 use Rattle.record_layouts.specs.Sound.{IsIn}
 use Rattle.frame_table.specs.Free.{ClaimsNone, KeepsFrames, KeepsPages, free_before, is_free_frame, is_table_word_of, is_this, nth_free}
-use Rattle.frame_table.proofs.Counting.{low_end, region_none}
+use Rattle.frame_table.proofs.Counting.{behind_none}
 use Rattle.frame_table.proofs.Free.{free_holds_none, free_of_pages, this_one}
 use Rattle.frame_table.proofs.Keeping.{owners_keep, tables_keep}
 
@@ -78,7 +78,7 @@ frame_behind r slot page process none = no_region r slot page process none (entr
 
 module _ {Rest : Type 0} (h new : Held Rest) (keeps : KeepsPages h new) (slot : ℕ) (process : ProcRec) (at : IsIn h.records slot process) (fits : FitsProc process) where
   behind : (page : ℕ) → 2 ^ 20 ≤ page → region_of process page ≡ None
-  behind page high = let low = low_end process fits at.live in region_none process page (inr (omega arith)) (inr (omega arith))
+  behind page high = behind_none process page fits at.live (omega arith)
 
   -- the frame of a page of a live process, also behind the last page that can be
   pub frame_kept : (page : ℕ) → frame_of new.records slot process page ≡ frame_of h.records slot process page

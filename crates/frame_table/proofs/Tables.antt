@@ -12,9 +12,10 @@ use Rattle.record_layouts.specs.Held.{Records}
 use Rattle.record_layouts.specs.Memory.{AreOfMemory}
 use Rattle.record_layouts.specs.Proc.{FitsProc}
 use Rattle.record_layouts.specs.Sound.{IsIn, AreMapped, is_table_place}
-use Rattle.record_layouts.specs.Pages.{byte_on, claim_of, entry_for, frame_of, have_frames, heap_pages, high_place, is_linked, is_mapped, low_place, pages_of, region_of, table_frame}
+use Rattle.record_layouts.specs.Pages.{byte_on, claim_of, entry_for, frame_of, have_frames, heap_pages, high_place, is_linked, is_live, is_mapped, low_place, pages_of, region_of, table_frame}
+use Rattle.record_layouts.proofs.Frames.{have_all}
 use Rattle.frame_table.specs.Maps.{framed_pages, mapping_by, map_in, map_of}
-use Rattle.frame_table.proofs.Counting.{values_end, low_end, in_or_out, region_none}
+use Rattle.frame_table.proofs.Counting.{values_end, low_end, in_or_out, region_none, region_there}
 use Rattle.frame_table.proofs.Found.{IsFrameOf, frame_found, one_page_each}
 
 -- each of the pages from the first on has a frame
@@ -67,6 +68,17 @@ page_case r slot process page mapped =
       ]
       | inr outside ↦ HasNone (region_none process page outside.0 outside.1)
     ]
+
+-- and it is mapped where its tables are linked and each of its pages has a frame
+pub mapped_where_held : (r : Records) (slot : ℕ) (process : ProcRec) → is_live process ≡ true
+    → is_linked r slot 1 low_place ≡ true → is_linked r slot 2 high_place ≡ true
+    → ((page : ℕ) → is_some (region_of process page) ≡ true → is_some (frame_of r slot process page) ≡ true) → is_mapped r slot process ≡ true
+unfolding is_mapped
+mapped_where_held r slot process live low high each =
+    let front = have_all r slot process 16 (process.code_pages + (process.data_pages + heap_pages process)) (values_end process) refl
+    (λ page up less. each page (region_there process page live (inl (up, less)))) in
+    let stack = have_all r slot process 0x7fffc 4 0x80000 refl (λ page up less. each page (region_there process page live (inr (up, less)))) in
+    rw (low, high, front, stack) refl
 
 mapping_none : (frame : Option ℕ) → mapping_by frame None ≡ None
 mapping_none (Some frame) = refl
