@@ -9,7 +9,7 @@ use Rattle.frame_table.specs.Free.{is_table_word_of}
 use Rattle.address_space.specs.Preparing.{AreTablesBare, AreTablesPartlyBare, AreWordsBare, bare_word}
 use Rattle.address_space.specs.Spaces.{OnlyPrepares}
 use Rattle.address_space.proofs.Living.{unused_dead}
-use Rattle.address_space.proofs.PagesPrepared.{entered_is, entered_prepares}
+use Rattle.address_space.proofs.PagesPrepared.{entered_is, entered_prepares, one_word}
 
 -- no word counts where no process goes on
 unused_if : (process : Option ProcRec) (table word : ℕ) → live_one process ≡ None → is_table_word_of table word process ≡ false
@@ -26,9 +26,8 @@ other_place : (table its word place : ℕ) → word < 1024 → place < 1024
     → (its == table && place == word) ≡ false
 other_place table its word place small below beside = elim (cases_Bool (its == table && place == word)) [
   | inl here ↦
-      let first : its ≡ table = grind (arith, nat_tests, here) in
-      let second : place ≡ word = grind (arith, nat_tests, here) in
-      elim (rw (first, second) at beside) [
+      let same = one_word its table place word here in
+      elim (rw (same.0, same.1) at beside) [
         | inl before ↦ absurd (omega (arith, before))
         | inr behind ↦ absurd (omega (arith, behind))
       ]

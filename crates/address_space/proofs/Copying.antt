@@ -461,5 +461,5 @@ module _ {Rest : Type 0} (h mid : Held Rest) (from to end : ℕ) (process : Proc
           at_entry (h.records.procs from) process (IsCopied h new from to) at_first
           (all_is_copied h new from to process last 0x80000 (second.on h front_copied) fits can_copy.live (all_below process fits can_copy.live))
 
-pub partly_bare : {Rest : Type 0} (h new : Held Rest) (from to : ℕ) → AreTablesPartlyBare h new to → IfSome (h.records.procs from) (IsPartlyCopied h new from to)
-partly_bare h new from to bare = any_process (h.records.procs from) (IsPartlyCopied h new from to) (λ process. bare_partly h new from to process bare)
+pub partly_in_tables : {Rest : Type 0} (h new : Held Rest) (from to : ℕ) → AreTablesPartlyBare h new to → IfSome (h.records.procs from) (IsPartlyCopied h new from to)
+partly_in_tables h new from to bare = any_process (h.records.procs from) (IsPartlyCopied h new from to) (λ process. bare_partly h new from to process bare)

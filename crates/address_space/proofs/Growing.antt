@@ -1,5 +1,5 @@
 -- Pages of zeros that are prepared behind a heap, one after the other.
-use Rattle.std.proofs.Common.{◌≡◌, ◌≢◌, ℕ, ◌+◌, ◌-◌, ◌/◌, ◌%◌, ◌^◌, ◌<◌, ◌≤◌, true, false, ◌==◌, ◌&&◌, if◌then◌else◌, Option, Some, None, IfSome, IfNone, is_some, refl, sym, ap, ◌∙◌, inl, inr, arith}
+use Rattle.std.proofs.Common.{◌≡◌, ◌≢◌, ℕ, ◌+◌, ◌/◌, ◌%◌, ◌^◌, ◌<◌, ◌≤◌, true, false, ◌==◌, ◌&&◌, if◌then◌else◌, Option, Some, None, IfSome, IfNone, is_some, refl, sym, ap, ◌∙◌, inl, inr, arith}
 use Rattle.std.proofs.Math.Nat.{zero-div}
 use Rattle.std.proofs.lemmas.Bool.{cases_Bool, cases_lt}
 use Rattle.std.proofs.lemmas.Bool.Decides.{nat_tests}
@@ -20,7 +20,7 @@ use Rattle.record_layouts.specs.Sound.{IsIn}
 use Rattle.frame_table.specs.Free.{KeepsFrames, free_before, is_free_frame, is_page_of}
 use Rattle.frame_table.proofs.Counting.{region_none}
 use Rattle.frame_table.proofs.Found.{frame_found}
-use Rattle.frame_table.proofs.Free.{before_zero}
+use Rattle.frame_table.proofs.Free.{before_zero, minus}
 use Rattle.frame_table.proofs.Keeping.{frame_there}
 use Rattle.frame_table.proofs.Kept.{frame_kept, pages_kept}
 use Rattle.frame_table.proofs.Tables.{HasFrame, HasFrames, HasNone, low_entry, mapped_frames, mapped_where_held, page_case}
@@ -175,13 +175,12 @@ module _ {Rest : Type 0} (now : Held Rest) (slot from page : ℕ) (process : Pro
     (is : IsReady now slot from page) where
   frame_ready : is_linked now.records slot 1 low_place ≡ true → frame_of now.records slot process page ≡ Some (now.records.map.pool_base + is.number)
   frame_ready linked =
-      let place : now.records.map.pool_base + is.number - now.records.map.pool_base ≡ is.number = omega arith in
       frame_there now.records slot process page (now.records.map.pool_base + is.number) (record {
         rights = Values;
         held = held;
         entry = low_entry now.records slot page linked low ∙ ap Some is.entry;
         of_users = omega arith;
-        claimed = ap now.records.owners place ∙ is.owner;
+        claimed = ap now.records.owners (minus now.records.map.pool_base is.number) ∙ is.owner;
       })
 
   -- its bytes are 0, also where the tables do not lead to it

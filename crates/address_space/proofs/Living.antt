@@ -7,7 +7,7 @@ use Rattle.record_layouts.specs.Proc.{FitsProc}
 use Rattle.frame_table.proofs.Counting.{low_end}
 use Rattle.address_space.specs.Spaces.{heap_end}
 
--- a process that is there and is not the live one does not go on
+-- where no process goes on, one that is there is not live
 pub unused_dead : (process : ProcRec) → live_one (Some process) ≡ None → is_live process ≡ false
 unused_dead process unused = elim (cases_Bool (is_live process)) [
   | inl live ↦ absurd (cc (rw live at unused))

@@ -1,5 +1,5 @@
 -- A page is prepared by three steps: the words of its frame are set, the frame is claimed for the page, and the entry is stored.
-use Rattle.std.proofs.Common.{◌≡◌, ◌≢◌, ℕ, ◌+◌, ◌-◌, ◌*◌, ◌/◌, ◌%◌, ◌^◌, ◌<◌, ◌≤◌, ◌⊎◌, true, false, nat_lt, ◌==◌, ◌&&◌, if◌then◌else◌, Option, Some, None, is_some, refl, sym, ap, ◌∙◌, inl, inr, arith}
+use Rattle.std.proofs.Common.{◌≡◌, ◌≢◌, ℕ, ◌+◌, ◌*◌, ◌/◌, ◌%◌, ◌^◌, ◌<◌, ◌≤◌, ◌⊎◌, true, false, nat_lt, ◌==◌, ◌&&◌, if◌then◌else◌, Option, Some, None, is_some, refl, sym, ap, ◌∙◌, inl, inr, arith}
 use Rattle.std.proofs.Math.Path.{fun_ext}
 use Rattle.std.proofs.lemmas.Bool.{cases_Bool, cases_eq}
 use Rattle.std.proofs.lemmas.Bool.Decides.{nat_tests}
@@ -13,14 +13,16 @@ use Rattle.record_layouts.specs.Pages.{claim_of, is_live, region_of, table_frame
 use Rattle.record_layouts.specs.Sound.{is_table_place}
 use Rattle.frame_table.specs.Free.{ClaimsNone, is_free_frame, is_page_of, is_table_word_of}
 use Rattle.frame_table.proofs.Found.{one_claim}
+use Rattle.frame_table.proofs.Free.{minus}
 use Rattle.frame_table.proofs.Keeping.{and_false}
 use Rattle.frame_table.proofs.Kept.{beside_words, frame_words, owner_stored, owner_words, table_stored, table_words}
 use Rattle.address_space.specs.Preparing.{CanPrepare, IsPageBegun, IsPagePrepared, filled, table_of, word_from}
 use Rattle.address_space.specs.Spaces.{OnlyPrepares, is_spare}
 use Rattle.address_space.proofs.Prepared.{prepares_on}
 
-minus : (base number : ℕ) → base + number - base ≡ number
-minus base number = omega arith
+-- a word of a table that passes the test is that word
+pub one_word : (its table place word : ℕ) → (its == table && place == word) ≡ true → (its ≡ table) × (place ≡ word)
+one_word its table place word here = (grind (arith, nat_tests, here), grind (arith, nat_tests, here))
 
 -- a free user frame as a frame of memory
 spare_there : (r : Records) (number : ℕ) → number < r.map.user_frames → is_free_frame r number ≡ true → is_spare r (r.map.pool_base + number) ≡ true
@@ -172,9 +174,8 @@ module _ {Rest : Type 0} (h new : Held Rest) (slot table word value : ℕ) (with
     tables = λ other its place apart. entered_is.entries other its place (grind (arith, nat_tests, apart));
     counted = λ its place low below counts. elim (cases_Bool (its == table && place == word)) [
       | inl here ↦
-          let first : its ≡ table = grind (arith, nat_tests, here) in
-          let second : place ≡ word = grind (arith, nat_tests, here) in
-          let same = rw (first, second) at counts in
+          let here_is = one_word its table place word here in
+          let same = rw (here_is.0, here_is.1) at counts in
           absurd (cc (same, unused))
       | inr there ↦ entered_is.entries slot its place (grind (arith, nat_tests, there))
     ];

@@ -62,7 +62,7 @@ pub claimed_by : (r : Records) (slot page frame : ℕ) → page_frame_of r slot 
 unfolding page_frame_of
 claimed_by r slot page frame e = claimed_if r slot page frame (r.procs slot) e
 
-minus : (base number : ℕ) → base + number - base ≡ number
+pub minus : (base number : ℕ) → base + number - base ≡ number
 minus base number = omega arith
 
 pub claimed : (r : Records) (slot page number : ℕ) → is_this (r.map.pool_base + number) (page_frame_of r slot page) ≡ true → r.owners number ≡ claim_of slot page

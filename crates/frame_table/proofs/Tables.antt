@@ -69,7 +69,7 @@ page_case r slot process page mapped =
       | inr outside ↦ HasNone (region_none process page outside.0 outside.1)
     ]
 
--- and it is mapped where its tables are linked and each of its pages has a frame
+-- a live process is mapped where its tables are linked and each of its pages has a frame
 pub mapped_where_held : (r : Records) (slot : ℕ) (process : ProcRec) → is_live process ≡ true
     → is_linked r slot 1 low_place ≡ true → is_linked r slot 2 high_place ≡ true
     → ((page : ℕ) → is_some (region_of process page) ≡ true → is_some (frame_of r slot process page) ≡ true) → is_mapped r slot process ≡ true

@@ -1,6 +1,6 @@
 use Rattle.std.proofs.Common.{sym, ◌∙◌}
 use Rattle.record_layouts.specs.Held.{held_by}
-use Rattle.address_space.proofs.Copying.{held_in_front, held_in_stack, partly_bare, partly_in_front, partly_in_stack, room_of_front, room_of_stack, whole_process}
+use Rattle.address_space.proofs.Copying.{held_in_front, held_in_stack, partly_in_tables, partly_in_front, partly_in_stack, room_of_front, room_of_stack, whole_process}
 use Rattle.address_space.proofs.Outcomes.{at_err}
 use Rattle.address_space.proofs.Prepared.{prepares_on}
 use Rattle.address_space.proofs.spaces.copy_space.Goals as goal
@@ -8,7 +8,7 @@ use Rattle.address_space.proofs.spaces.copy_space.Goals as goal
 pub returns-in_err-clear_tables-clause-err : goal.returns-in_err-clear_tables-clause-err
 returns-in_err-clear_tables-clause-err g c =
     let held = held_by g.W.RecordView.records g.W.WordSource.words g.W.Writer.disk g.W.Writer.rest in
-    at_err c.from_residual.result _ (partly_bare (held c.args.live.now) (held c.clear_tables.new.live) c.args.from c.args.to c.in_err-clear_tables.ensures.err)
+    at_err c.from_residual.result _ (partly_in_tables (held c.args.live.now) (held c.clear_tables.new.live) c.args.from c.args.to c.in_err-clear_tables.ensures.err)
 
 pub copy_pages-requires-clause-held : goal.copy_pages-requires-clause-held
 copy_pages-requires-clause-held g c =
