@@ -9,10 +9,7 @@ use frame_table::{free_frames, nth_free, page_frame};
 use intent_store::Live;
 use ow_base::{Came, WordSource};
 use ow_plant::Plant;
-use record_layouts::{
-    AnyRec, AreaView, CODE_PAGE, MemoryMap, Patch, ProcRec, RecordId, RecordView, STACK_PAGES,
-    Writer,
-};
+use record_layouts::{AnyRec, AreaView, MemoryMap, Patch, ProcRec, RecordId, RecordView, Writer};
 use std::alloc::{AllocError, Global};
 use std::test::Fail;
 use test_fixtures::{HEAD, HIGH_2, LOW_2, MAP, OWNER_0, PROC, PROC_2, ROOT_2, sealed};
@@ -169,23 +166,17 @@ fn grow_by_two(plant: &mut Plant) -> bool
     ensures free { result ≡ true → plant.new.refusal ≡ None }
 {
     let mut live = Live::new(plant);
-    let Some(process) = live.proc(SLOT) else {
+    if live.head().is_none() || live.user_frames() != USER_FRAMES {
+        return false;
+    }
+    let Some(process) = live.live_proc(SLOT) else {
         return false;
     };
-    let end = CODE_PAGE + pages(&process) - STACK_PAGES;
-    if live.head().is_none() || !process.is_live() || end + 2 > 1024 {
+    // Pages of code begin at 16, and four pages are the stack's: the heap can end at page 1,024.
+    if pages(&process) > 1010 || free_frames(&live, USER_FRAMES) < 2 {
         return false;
     }
-    let user_frames = live.user_frames();
-    free_frames(&live, user_frames) >= 2 && grow(&mut live, SLOT, 2).is_ok()
-}
-
-// No process goes on in the other slot.
-fn is_unused(live: &Live<'_>) -> bool {
-    match live.proc(OTHER) {
-        Some(process) => !process.is_live(),
-        None => true,
-    }
+    grow(&mut live, SLOT, 2).is_ok()
 }
 
 // The pages of the process for a child; whether this was answered by Ok.
@@ -196,14 +187,17 @@ fn copy_for_child(plant: &mut Plant) -> bool
     ensures free { result ≡ true → plant.new.refusal ≡ None }
 {
     let mut live = Live::new(plant);
-    let Some(process) = live.proc(SLOT) else {
-        return false;
-    };
-    if live.head().is_none() || !process.is_live() || !is_unused(&live) {
+    if live.head().is_none() || live.user_frames() != USER_FRAMES {
         return false;
     }
-    let user_frames = live.user_frames();
-    free_frames(&live, user_frames) >= pages(&process) && copy_space(&mut live, SLOT, OTHER).is_ok()
+    let Some(process) = live.live_proc(SLOT) else {
+        return false;
+    };
+    let free = free_frames(&live, USER_FRAMES);
+    if live.live_proc(OTHER).is_some() || free < pages(&process) {
+        return false;
+    }
+    copy_space(&mut live, SLOT, OTHER).is_ok()
 }
 
 // A call in a trap of its own; whether it was answered by Ok.
