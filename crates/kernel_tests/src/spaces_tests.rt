@@ -4,7 +4,7 @@ ghost use Rattle.ow_plant.specs.State.{IsArmed};
 ghost use Rattle.record_layouts.specs.Held.{IsCommittable, Records};
 
 use crate::plants::{differ_there, machine, record_words, set_words};
-use address_space::{can_write, copy_space, grow, pages, put_user, user_bytes};
+use address_space::{Efault, can_read, can_write, copy_space, grow, pages, put_user, user_bytes};
 use frame_table::{free_frames, nth_free, page_frame};
 use intent_store::Live;
 use ow_base::{Came, WordSource};
@@ -398,13 +398,11 @@ fn counted(alloc: Global, call: Call) -> Result<Option<Plant>, AllocError> {
 fn pages_of_zeros_are_counted(rt: HostRuntime) -> Result<(), Fail> {
     let plant = counted(rt.alloc(), Call::Grow)?.ok_or("is not refused")?;
     let view = AreaView::new(&plant, USERS);
-    let mut room = [0xee; 8193];
-    assert_eq!(rt;
-        user_bytes(&view, SLOT, 0x1_2000, &mut room[..8192]),
-        Ok(())
-    );
-    assert_eq!(rt; room[..8192] == [0; 8192], true);
-    assert_eq!(rt; user_bytes(&view, SLOT, 0x1_2000, &mut room).is_ok(), false);
+    let mut room = [0xee; 8192];
+    let read = user_bytes(&view, SLOT, 0x1_2000, &mut room);
+    assert_eq!(rt; read, Ok(()));
+    assert_eq!(rt; room == [0; 8192], true);
+    assert_eq!(rt; can_read(&view, SLOT, 0x1_2000, 8193), Err(Efault));
     assert_eq!(rt; has_pages(&plant, SLOT), true);
     // As many frames are taken as there are pages, so no two pages have the same one.
     assert_eq!(rt; free_frames(&view, USER_FRAMES), 8);
