@@ -1,7 +1,6 @@
 -- What only prepares pages, one thing after the other.
-use Rattle.std.proofs.Common.{◌≡◌, ℕ, ◌-◌, Bool, true, false, nat_lt, not, ◌&&◌, refl, sym, ap, ◌∙◌}
+use Rattle.std.proofs.Common.{◌≡◌, ℕ, ◌-◌, Bool, nat_lt, not, ◌&&◌, refl, ap, ◌∙◌}
 use Rattle.record_layouts.specs.declared.memory_map.MemoryMap.{MemoryMap}
-use Rattle.record_layouts.specs.declared.proc.ProcRec.{ProcRec}
 use Rattle.record_layouts.specs.Held.{Held, Records}
 use Rattle.frame_table.specs.Free.{KeepsFrames, KeepsPages, is_free_frame, is_table_word_of}
 use Rattle.frame_table.proofs.Kept.{free_same, pages_on}

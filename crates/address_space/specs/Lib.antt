@@ -2,3 +2,4 @@
 pub mod Writable
 pub mod Spaces
 pub mod Preparing
+pub mod Copying

@@ -1,9 +1,9 @@
 -- One page that is prepared, and the tables of a slot before any is.
-use Rattle.std.specs.Prelude.{◌≡◌, ◌≢◌, ℕ, ◌+◌, ◌-◌, ◌*◌, ◌/◌, ◌%◌, ◌^◌, ◌<◌, ◌≤◌, ◌⊎◌, Bool, true, false, ◌==◌, ◌&&◌, if◌then◌else◌, Option, Some, None}
+use Rattle.std.specs.Prelude.{◌≡◌, ◌≢◌, ℕ, ◌+◌, ◌*◌, ◌/◌, ◌%◌, ◌<◌, ◌≤◌, ◌⊎◌, true, false, nat_lt, ◌==◌, ◌&&◌, if◌then◌else◌, Option, Some, None}
 use Rattle.ow_base.specs.Entries.{leaf_word, pointer_word}
 use Rattle.ow_base.specs.Sv32.{WordMap, word_or_zero}
 use Rattle.ow_base.specs.declared.machine.Rights.{Rights}
-use Rattle.record_layouts.specs.Held.{Held, Records}
+use Rattle.record_layouts.specs.Held.{Held, Records, with_words}
 use Rattle.record_layouts.specs.Pages.{claim_of, table_frame}
 use Rattle.frame_table.specs.Free.{is_free_frame, is_page_of}
 
@@ -24,6 +24,10 @@ pub record CanPrepare (r : Records) (slot page number : ℕ) : Type 0 where
 abbrev pub word_from : WordMap → (source : Option ℕ) → (word : ℕ) → ℕ
 word_from contents (Some frame) word = word_or_zero (contents frame word)
 word_from contents None word = 0
+
+-- so many first words of a user frame become those of a frame, or zeros
+abbrev pub filled : {Rest : Type 0} → Held Rest → (number : ℕ) → (source : Option ℕ) → (count : ℕ) → Held Rest
+filled h number source count = with_words h (h.records.map.pool_base + number) (λ w. nat_lt w count) (word_from h.contents source)
 
 -- a frame of memory is a user frame
 abbrev pub IsUserFrame : Records → (frame : ℕ) → Type 0
@@ -56,6 +60,23 @@ abbrev pub bare_word : (area_base slot table word : ℕ) → ℕ
 bare_word area_base slot table word =
     if table == 0 && word == 0 then pointer_word (area_base + table_frame slot 1) else
     if table == 0 && word == 511 then pointer_word (area_base + table_frame slot 2) else 0
+
+-- The words of a slot's three tables are counted from the first of the root. So many from one on are those, and nothing
+-- else has changed.
+pub record AreWordsBare {Rest : Type 0} (h new : Held Rest) (slot first count : ℕ) : Type 0 where
+  pub records : new.records ≡ record h.records { table_words = new.records.table_words }
+  pub bare : (table word : ℕ) → table < 3 → word < 1024 → first ≤ 1024 * table + word → 1024 * table + word < first + count
+      → new.records.table_words slot table word ≡ bare_word h.records.map.area_base slot table word
+  pub kept : (table word : ℕ) → table < 3 → word < 1024 → (1024 * table + word < first) ⊎ (first + count ≤ 1024 * table + word)
+      → new.records.table_words slot table word ≡ h.records.table_words slot table word
+  pub others : (other table word : ℕ) → other ≢ slot → new.records.table_words other table word ≡ h.records.table_words other table word
+  pub contents : new.contents ≡ h.contents
+  pub disk : new.disk ≡ h.disk
+  pub rest : new.rest ≡ h.rest
+
+-- some from one on are those
+abbrev pub AreFirstBare : {Rest : Type 0} → (h new : Held Rest) → (slot first : ℕ) → Type 0
+AreFirstBare h new slot first = (count : ℕ) × AreWordsBare h new slot first count
 
 -- all words of the tables of a slot are those, and nothing else has changed
 pub record AreTablesBare {Rest : Type 0} (h new : Held Rest) (slot : ℕ) : Type 0 where

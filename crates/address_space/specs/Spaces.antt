@@ -1,13 +1,10 @@
 -- What becomes of what is held where pages are prepared that do not count yet, and where bytes of a process are stored.
-use Rattle.std.specs.Prelude.{◌≡◌, ◌≢◌, ℕ, ◌+◌, ◌-◌, ◌*◌, ◌/◌, ◌%◌, ◌^◌, ◌<◌, ◌≤◌, ◌⊎◌, Bool, true, false, nat_lt, not, ◌==◌, ◌&&◌, if◌then◌else◌, List, Option, Some, None}
-use Rattle.ow_base.specs.Entries.{leaf_word, pointer_word}
-use Rattle.ow_base.specs.Sv32.{word_or_zero}
-use Rattle.ow_base.specs.declared.machine.Rights.{Rights}
+use Rattle.std.specs.Prelude.{◌≡◌, ◌≢◌, ℕ, ◌+◌, ◌-◌, ◌*◌, ◌/◌, ◌^◌, ◌<◌, ◌≤◌, ◌⊎◌, Bool, true, false, nat_lt, not, ◌==◌, ◌&&◌, if◌then◌else◌, List, Some, None}
 use Rattle.record_layouts.specs.declared.proc.ProcRec.{ProcRec}
 use Rattle.record_layouts.specs.Unix.State.{is_within}
 use Rattle.record_layouts.specs.Unix.Spaces.{with_bytes, with_zero_pages}
 use Rattle.record_layouts.specs.Held.{Held, Records}
-use Rattle.record_layouts.specs.Pages.{claim_of, frame_of, heap_pages, is_live, is_mapped, live_one, page_frame_of, page_total, pages_of, region_of, table_frame}
+use Rattle.record_layouts.specs.Pages.{frame_of, heap_pages, is_live, is_mapped, live_one, page_frame_of, page_total, pages_of}
 use Rattle.record_layouts.specs.Sound.{is_table_place}
 use Rattle.frame_table.specs.Free.{KeepsPages, free_before, is_free_frame, is_page_of, is_table_word_of}
 use Rattle.frame_table.specs.Maps.{framed_pages}

@@ -1,7 +1,10 @@
 //! Bytes of a process that a kernel stores.
 
-ghost use Rattle.std.specs.Prelude.{◌≡◌, ℕ, ◌<◌, true, false, length, take, OnErr, OnOk};
-ghost use Rattle.record_layouts.specs.Held.{StaysUnstored, held_by};
+ghost use Rattle.std.specs.Prelude.{◌≡◌, ℕ, ◌+◌, ◌-◌, ◌/◌, ◌%◌, ◌<◌, ◌≤◌, true, false, Some, is_some, if◌then◌else◌, length, slice_index, take, OnErr, OnOk};
+ghost use Rattle.ow_base.specs.Sv32.{byte_of};
+ghost use Rattle.record_layouts.specs.Held.{IsBeside, StaysUnstored, held_by};
+ghost use Rattle.record_layouts.specs.Pages.{page_frame_of};
+ghost use Rattle.record_layouts.specs.Unix.State.{is_within};
 ghost use Rattle.frame_table.specs.Maps.{framed_pages};
 ghost use Rattle.address_space.specs.Spaces.{IsPut};
 ghost use Rattle.address_space.specs.Writable.{is_writable};
@@ -37,20 +40,36 @@ pub fn put_user<W: Writer>(live: &mut W, slot: u32, addr: u32, bytes: &[u8]) -> 
     let mut done = 0;
     while done < bytes.len() {
         let place = addr + done as u32;
-        let frame = page_frame(live, slot, place / PAGE).unwrap();
         let end = bytes.len().min(done + (PAGE - place % PAGE) as usize);
-        put_in_frame(live, frame, place % PAGE, &bytes[done..end])?;
+        put_in_page(live, slot, place, &bytes[done..end])?;
         done = end;
     }
     Ok(())
 }
 
-// Stores bytes in a frame from an offset on, word by word.
-fn put_in_frame<W: Writer>(live: &mut W, frame: u32, offset: u32, bytes: &[u8]) -> Result<(), Panicked>
+// Stores bytes in one page of a slot, word by word.
+fn put_in_page<W: Writer>(live: &mut W, slot: u32, addr: u32, bytes: &[u8]) -> Result<(), Panicked>
+    requires able { W.refused live.old ≡ false }
+    requires stands { W.Stands live.old }
+    requires slot { slot < 16 }
+    requires page { is_some (page_frame_of (W.records live.old) slot (addr / 4096)) ≡ true }
+    requires within { addr % 4096 + length bytes.now ≤ 4096 }
+    ensures ok { OnOk result (IsPut (held_by W.records W.words W.disk W.rest live.old)
+        (held_by W.records W.words W.disk W.rest live.new) slot addr bytes.now) }
+    ensures err { OnErr result ((count : ℕ) × (count < length bytes.now) × IsPut (held_by W.records W.words W.disk W.rest live.old)
+        (held_by W.records W.words W.disk W.rest live.new) slot addr (take count bytes.now)) }
+    ensures stays { OnOk result (W.refused live.new ≡ false) }
+    ensures cause { OnErr result (W.refused live.new ≡ true) }
+    ensures unstored { StaysUnstored (W.made live.old) (W.made live.new)
+        (held_by W.records W.words W.disk W.rest live.old) (held_by W.records W.words W.disk W.rest live.new) }
+    ensures allowed { OnErr result (W.may_refuse (W.rest live.old) ≡ true) }
+    ensures still_stands { W.Stands live.new }
+    ensures place { W.place live.new ≡ W.place live.old }
 {
+    let frame = page_frame(live, slot, addr / PAGE).unwrap();
     let mut done = 0;
     while done < bytes.len() {
-        let place = offset + done as u32;
+        let place = addr + done as u32;
         let end = bytes.len().min(done + (WORD - place % WORD) as usize);
         put_in_word(live, frame, place, &bytes[done..end])?;
         done = end;
@@ -58,12 +77,39 @@ fn put_in_frame<W: Writer>(live: &mut W, frame: u32, offset: u32, bytes: &[u8]) 
     Ok(())
 }
 
-// Stores bytes in a word of a frame, from an offset in the frame on.
-fn put_in_word<W: Writer>(live: &mut W, frame: u32, offset: u32, bytes: &[u8]) -> Result<(), Panicked>
+// Stores bytes in one word of the frame in which the page of an address lies.
+fn put_in_word<W: Writer>(live: &mut W, frame: u32, addr: u32, bytes: &[u8]) -> Result<(), Panicked>
+    requires able { W.refused live.old ≡ false }
+    requires stands { W.Stands live.old }
+    requires beside { IsBeside (W.records live.old) (W.words live.old) frame }
+    requires within { addr % 4 + length bytes.now ≤ 4 }
+    ensures ok { OnOk result ((slot : ℕ) → page_frame_of (W.records live.old) slot (addr / 4096) ≡ Some frame
+        → IsPut (held_by W.records W.words W.disk W.rest live.old) (held_by W.records W.words W.disk W.rest live.new) slot addr bytes.now) }
+    ensures err { OnErr result (held_by W.records W.words W.disk W.rest live.new ≡ held_by W.records W.words W.disk W.rest live.old) }
+    ensures stays { OnOk result (W.refused live.new ≡ false) }
+    ensures cause { OnErr result (W.refused live.new ≡ true) }
+    ensures unstored { StaysUnstored (W.made live.old) (W.made live.new)
+        (held_by W.records W.words W.disk W.rest live.old) (held_by W.records W.words W.disk W.rest live.new) }
+    ensures allowed { OnErr result (W.may_refuse (W.rest live.old) ≡ true) }
+    ensures still_stands { W.Stands live.new }
+    ensures place { W.place live.new ≡ W.place live.old }
 {
-    let old = live.load(frame, offset / WORD).unwrap_or(0);
-    let mut word = old.to_le_bytes();
-    let first = (offset % WORD) as usize;
-    word[first..first + bytes.len()].copy_from_slice(bytes);
-    live.direct_word(frame, offset / WORD, u32::from_le_bytes(word))
+    let word = addr % PAGE / WORD;
+    let old = live.load(frame, word).unwrap_or(0);
+    live.direct_word(
+        frame,
+        word,
+        word_with_bytes(old, (addr % WORD) as usize, bytes),
+    )
+}
+
+// The word with bytes in place of some of its own, from the one on that is first.
+fn word_with_bytes(word: u32, first: usize, bytes: &[u8]) -> u32
+    requires { first + length bytes.now ≤ 4 }
+    ensures { (k : ℕ) → k < 4
+        → byte_of result k ≡ (if is_within first (length bytes.now) k then slice_index bytes.now (k - first) else byte_of word k) }
+{
+    let mut all = word.to_le_bytes();
+    all[first..first + bytes.len()].copy_from_slice(bytes);
+    u32::from_le_bytes(all)
 }

@@ -1,9 +1,11 @@
 //! Pages that are prepared for a process before a record counts them: those that its heap grows by, and those of a child.
 
-ghost use Rattle.std.specs.Prelude.{◌≡◌, ◌<◌, true, false, is_some, IfSome, OnErr, OnOk};
+ghost use Rattle.std.specs.Prelude.{◌≡◌, ℕ, ◌+◌, ◌-◌, ◌<◌, ◌≤◌, true, false, Some, None, is_some, IfOk, IfSome, OnErr, OnOk};
 ghost use Rattle.record_layouts.specs.Held.{StaysUnstored, held_by};
-ghost use Rattle.record_layouts.specs.Pages.{is_live, live_one};
+ghost use Rattle.record_layouts.specs.Pages.{is_live, live_one, region_of};
 ghost use Rattle.record_layouts.specs.Proc.{FitsProc};
+ghost use Rattle.frame_table.specs.Free.{free_before};
+ghost use Rattle.address_space.specs.Copying.{IsRangeCopied, IsRangePartlyCopied};
 ghost use Rattle.address_space.specs.Spaces.{CanCopy, CanGrow, IsCopied, IsGrown, IsPartlyCopied, IsPartlyGrown, OnlyPrepares, heap_end};
 
 use crate::preparing::{clear_tables, prepare_page};
@@ -39,9 +41,9 @@ pub fn grow<W: Writer>(live: &mut W, slot: u32, count: u32) -> Result<(), Panick
     let first = heap_end(&process);
     let user_frames = live.user_frames();
     let mut from = 0;
-    for page in first..first + count {
+    for done in 0..count {
         let number = next_free(live, user_frames, from).unwrap();
-        prepare_page(live, slot, page, Rights::Values, None, number)?;
+        prepare_page(live, slot, first + done, Rights::Values, None, number)?;
         from = number + 1;
     }
     Ok(())
@@ -76,7 +78,15 @@ pub fn copy_space<W: Writer>(live: &mut W, from: u32, to: u32) -> Result<(), Pan
     clear_tables(live, to)?;
     let process = live.proc(from).unwrap();
     let next = copy_pages(live, from, to, &process, CODE_PAGE, heap_end(&process), 0)?;
-    copy_pages(live, from, to, &process, STACK_PAGE, STACK_PAGE + STACK_PAGES, next)?;
+    copy_pages(
+        live,
+        from,
+        to,
+        &process,
+        STACK_PAGE,
+        STACK_PAGE + STACK_PAGES,
+        next,
+    )?;
     Ok(())
 }
 
@@ -98,11 +108,33 @@ fn copy_pages<W: Writer>(
     process: &ProcRec,
     first: u32,
     end: u32,
-    frames_from: u32,
+    taken: u32,
 ) -> Result<u32, Panicked>
+    requires able { W.refused live.old ≡ false }
+    requires stands { W.Stands live.old }
+    requires from { from < 16 }
+    requires to { to < 16 }
+    requires there { (W.records live.old).procs from ≡ Some process.now }
+    requires fits { FitsProc process.now }
+    requires unused { live_one ((W.records live.old).procs to) ≡ None }
+    requires order { first ≤ end }
+    requires held { (page : ℕ) → first ≤ page → page < end → is_some (region_of process.now page) ≡ true }
+    requires frames { free_before (W.records live.old) taken + (end - first) ≤ free_before (W.records live.old) (W.records live.old).map.user_frames }
+    ensures ok { IfOk result (IsRangeCopied (held_by W.records W.words W.disk W.rest live.old)
+        (held_by W.records W.words W.disk W.rest live.new) from to process.now taken first end) }
+    ensures err { OnErr result (IsRangePartlyCopied (held_by W.records W.words W.disk W.rest live.old)
+        (held_by W.records W.words W.disk W.rest live.new) from to process.now taken first) }
+    ensures prepares { OnlyPrepares to (held_by W.records W.words W.disk W.rest live.old) (held_by W.records W.words W.disk W.rest live.new) }
+    ensures stays { OnOk result (W.refused live.new ≡ false) }
+    ensures cause { OnErr result (W.refused live.new ≡ true) }
+    ensures unstored { StaysUnstored (W.made live.old) (W.made live.new)
+        (held_by W.records W.words W.disk W.rest live.old) (held_by W.records W.words W.disk W.rest live.new) }
+    ensures allowed { OnErr result (W.may_refuse (W.rest live.old) ≡ true) }
+    ensures still_stands { W.Stands live.new }
+    ensures place { W.place live.new ≡ W.place live.old }
 {
     let user_frames = live.user_frames();
-    let mut next = frames_from;
+    let mut next = taken;
     for page in first..end {
         let number = next_free(live, user_frames, next).unwrap();
         let rights = region(process, page).unwrap();

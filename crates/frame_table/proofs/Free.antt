@@ -14,7 +14,7 @@ use Rattle.frame_table.proofs.Found.{frame_found}
 pub record HoldsNone (r : Records) (frame : ℕ) : Type 0 where
   pub none : (slot page : ℕ) → slot < 16 → page < 2 ^ 20 → is_this frame (page_frame_of r slot page) ≡ false
 
-this_found : (frame : ℕ) (found : Option ℕ) → is_this frame found ≡ true → found ≡ Some frame
+pub this_found : (frame : ℕ) (found : Option ℕ) → is_this frame found ≡ true → found ≡ Some frame
 this_found frame (Some other) is = grind (arith, nat_tests)
 this_found frame None is = grind arith
 

@@ -72,7 +72,7 @@ no_region : (r : Records) (slot page : ℕ) (process : ProcRec) → region_of pr
 no_region r slot page process none (Some entry) = rw none refl
 no_region r slot page process none None = refl
 
-frame_behind : (r : Records) (slot page : ℕ) (process : ProcRec) → region_of process page ≡ None → frame_of r slot process page ≡ None
+pub frame_behind : (r : Records) (slot page : ℕ) (process : ProcRec) → region_of process page ≡ None → frame_of r slot process page ≡ None
 unfolding frame_of
 frame_behind r slot page process none = no_region r slot page process none (entry_for r slot page)
 
@@ -126,7 +126,7 @@ module _ {Rest : Type 0} where
   owners_area : (h : Held Rest) → is_of_area h.records.map.area_base (h.records.map.area_base + 10) ≡ true
   owners_area h = grind (arith, nat_tests)
 
-  owner_words : (h : Held Rest) (hit : ℕ → Bool) (value : ℕ → ℕ)
+  pub owner_words : (h : Held Rest) (hit : ℕ → Bool) (value : ℕ → ℕ)
       → with_words h (h.records.map.area_base + 10) hit value ≡ record h { records = with_owner_words h.records hit value }
   unfolding with_words
   owner_words h hit value =
@@ -145,7 +145,7 @@ module _ {Rest : Type 0} where
   table_area : (h : Held Rest) (slot table : ℕ) → slot < 16 → table < 3 → is_of_area h.records.map.area_base (h.records.map.area_base + table_frame slot table) ≡ true
   table_area h slot table within third = let last : table_frame slot table < 64 = omega arith in grind (arith, nat_tests, last)
 
-  table_words : (h : Held Rest) (slot table : ℕ) (hit : ℕ → Bool) (value : ℕ → ℕ) → slot < 16 → table < 3
+  pub table_words : (h : Held Rest) (slot table : ℕ) (hit : ℕ → Bool) (value : ℕ → ℕ) → slot < 16 → table < 3
       → with_words h (h.records.map.area_base + table_frame slot table) hit value ≡ record h { records = with_table_words h.records (table_frame slot table) hit value }
   unfolding with_words
   table_words h slot table hit value within third =
@@ -168,7 +168,7 @@ module _ {Rest : Type 0} where
       })
 
   -- any words of a free frame
-  beside_words : (h : Held Rest) (frame : ℕ) (hit : ℕ → Bool) (value : ℕ → ℕ) → is_of_area h.records.map.area_base frame ≡ false
+  pub beside_words : (h : Held Rest) (frame : ℕ) (hit : ℕ → Bool) (value : ℕ → ℕ) → is_of_area h.records.map.area_base frame ≡ false
       → with_words h frame hit value ≡ record h { contents = λ f w. if f == frame && nat_lt w 1024 && hit w then Some (value w) else h.contents f w }
   unfolding with_words
   beside_words h frame hit value beside = rw beside refl

@@ -1,5 +1,5 @@
--- The lemmas of the crate: which pages the regions hold, what a frame that is found tells, and that tables are read as
--- pages.
+-- The lemmas of the crate: which pages the regions hold, what a frame that is found tells, that tables are read as
+-- pages, and that each user frame is free or that of a page.
 pub mod Counting
 pub mod Found
 pub mod Tables
@@ -7,3 +7,5 @@ pub mod Framed
 pub mod Free
 pub mod Keeping
 pub mod Kept
+pub mod Sums
+pub mod Users

@@ -12,7 +12,7 @@ use Rattle.record_layouts.specs.Held.{Records}
 use Rattle.record_layouts.specs.Memory.{AreOfMemory}
 use Rattle.record_layouts.specs.Proc.{FitsProc}
 use Rattle.record_layouts.specs.Sound.{IsIn, AreMapped, is_table_place}
-use Rattle.record_layouts.specs.Pages.{byte_on, entry_for, frame_of, have_frames, heap_pages, high_place, is_linked, is_mapped, low_place, pages_of, region_of, table_frame}
+use Rattle.record_layouts.specs.Pages.{byte_on, claim_of, entry_for, frame_of, have_frames, heap_pages, high_place, is_linked, is_mapped, low_place, pages_of, region_of, table_frame}
 use Rattle.frame_table.specs.Maps.{framed_pages, mapping_by, map_in, map_of}
 use Rattle.frame_table.proofs.Counting.{values_end, low_end, in_or_out, region_none}
 use Rattle.frame_table.proofs.Found.{IsFrameOf, frame_found, one_page_each}
@@ -127,6 +127,13 @@ pub framed_same : (r : Records) (slot : ℕ) (process : ProcRec) (words : WordMa
 unfolding map_in
 framed_same r slot process words there mapped = rw there (pages_same r slot process mapped words)
 
+-- a frame with an owner is a user frame
+pub owned_below : (r : Records) (words : WordMap) (slot page number : ℕ) → AreOfMemory r words → r.owners number ≡ claim_of slot page → number < r.map.user_frames
+owned_below r words slot page number of claimed = elim (cases_lt number r.map.user_frames) [
+  | inl below ↦ below
+  | inr behind ↦ let none = of.no_owner number behind in absurd (omega (arith, none, claimed))
+]
+
 -- the entry of a page of one of the two tables
 low_entry : (r : Records) (slot page : ℕ) → is_linked r slot 1 low_place ≡ true → page < 1024 → entry_for r slot page ≡ Some (r.table_words slot 1 page)
 unfolding entry_for
@@ -187,12 +194,8 @@ module _ (r : Records) (slot : ℕ) (process : ProcRec) (at : IsIn r slot proces
     low : values_end process ≤ 1024
     low = low_end process fits at.live
 
-    -- a frame with an owner is a user frame
     user_frame : (page frame : ℕ) → IsFrameOf r slot process page frame → frame - r.map.pool_base < r.map.user_frames
-    user_frame page frame f = elim (cases_lt (frame - r.map.pool_base) r.map.user_frames) [
-      | inl below ↦ below
-      | inr behind ↦ let none = of.no_owner (frame - r.map.pool_base) behind in omega (arith, none, f.claimed)
-    ]
+    user_frame page frame f = owned_below r words slot page (frame - r.map.pool_base) of f.claimed
 
     frame_of_mapping : (page : ℕ) (m : Mapping) → map_of r slot process page ≡ Some m → IsFrameOf r slot process page m.frame
     frame_of_mapping page m e = frame_found r slot process page m.frame (map_tells r slot process page m e).0

@@ -4,12 +4,13 @@ ghost use Rattle.std.specs.Prelude.{◌≡◌, ℕ, ◌+◌, ◌^◌, ◌<◌, �
 ghost use Rattle.ow_base.specs.Sv32.{WordMap, pages_by};
 ghost use Rattle.sv32_tables.specs.Spaces.{IsMapped, pages_in, satp_of};
 ghost use Rattle.record_layouts.specs.declared.proc.ProcRec.{ProcRec};
-ghost use Rattle.record_layouts.specs.Held.{Records};
+ghost use Rattle.record_layouts.specs.Held.{AreValues, Records};
 ghost use Rattle.record_layouts.specs.Memory.{AreOfMemory};
 ghost use Rattle.record_layouts.specs.Pages.{frame_of, is_mapped, page_frame_of, page_total, pages_of, table_frame};
 ghost use Rattle.record_layouts.specs.Proc.{FitsProc};
-ghost use Rattle.record_layouts.specs.Sound.{AreMapped, IsIn};
-ghost use Rattle.frame_table.specs.Counts.{pages_held};
+ghost use Rattle.record_layouts.specs.Sound.{AreMapped, HaveFrames, IsIn};
+ghost use Rattle.frame_table.specs.Counts.{pages_held, pages_of_all};
+ghost use Rattle.frame_table.specs.Free.{free_before};
 ghost use Rattle.frame_table.specs.Maps.{framed_pages, map_of};
 
 /// No frame is that of two pages, of one process or of two.
@@ -53,4 +54,10 @@ pub const fn mapped_pages_have_frames()
     ensures slot { (r : Records) (words : WordMap) (slot : ℕ) (process : ProcRec)
         → r.procs slot ≡ Some process → is_mapped r slot process ≡ true
         → framed_pages r words slot ≡ pages_of r words slot process }
+{}
+
+/// Where each page of each live process has a frame, the free user frames and the pages are all user frames.
+pub const fn frames_are_free_or_pages()
+    ensures { (r : Records) (words : WordMap) → AreOfMemory r words → AreValues r → HaveFrames r
+        → free_before r r.map.user_frames + pages_of_all r 16 ≡ r.map.user_frames }
 {}

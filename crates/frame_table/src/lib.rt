@@ -13,9 +13,10 @@ pub use kept_laws::{
     uncounted_words_move_no_page,
 };
 pub use laws::{
-    frames_lie_apart, mapped_pages_have_frames, pages_are_counted, tables_lead_to_pages,
+    frames_are_free_or_pages, frames_lie_apart, mapped_pages_have_frames, pages_are_counted,
+    tables_lead_to_pages,
 };
 pub use ow_base::Rights;
 pub use pool::{free_frames, next_free, nth_free};
 pub use record_layouts::{ProcRec, RecordView};
-pub use regions::{pages, region};
+pub use regions::{pages, pages_of_all, region};

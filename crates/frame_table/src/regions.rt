@@ -1,11 +1,12 @@
-//! Which pages a process has, by its record.
+//! Which pages a process has, by its record, and how many all have.
 
 ghost use Rattle.std.specs.Prelude.{◌≡◌, ◌<◌, ◌≤◌, ◌^◌};
 ghost use Rattle.record_layouts.specs.Pages.{heap_pages, page_total, region_of};
 ghost use Rattle.record_layouts.specs.Proc.{FitsProc};
+ghost use Rattle.frame_table.specs.Counts.{pages_of_all};
 
 use ow_base::Rights;
-use record_layouts::{CODE_PAGE, ProcRec, STACK_PAGE, STACK_PAGES};
+use record_layouts::{CODE_PAGE, ProcRec, RecordView, SLOTS, STACK_PAGE, STACK_PAGES};
 
 // The bytes of a page.
 const PAGE: u32 = 4096;
@@ -30,6 +31,20 @@ pub fn pages(rec: &ProcRec) -> u32
     } else {
         0
     }
+}
+
+/// How many pages all live processes have, their stacks included.
+#[tactic(auto, using(crate::proofs::Users::none_before, crate::proofs::Users::one_slot_more, crate::proofs::Users::few_of))]
+pub fn pages_of_all<V: RecordView>(view: &V) -> u32
+    ensures { result ≡ pages_of_all (V.records view.now) 16 }
+{
+    let mut total = 0;
+    for slot in 0..SLOTS {
+        if let Some(rec) = view.live_proc(slot) {
+            total += pages(&rec);
+        }
+    }
+    total
 }
 
 /// What the process may do with a page, by the page's number (its address / 4096). `None` exactly where its regions do

@@ -19,27 +19,8 @@ use Rattle.record_layouts.specs.Overlay.{HasArea, area_at}
 use Rattle.record_layouts.specs.Reading.{is_readable_gate, records_in, records_of}
 use Rattle.intent_store.specs.Blocks.{IsSeenAs, IsSeenSet, seen}
 use Rattle.intent_store.specs.Live.{IsStanding, base_of, gate_held, held_of, map_of, records_held, rest_of}
+use Rattle.intent_store.specs.OfMemory.{has_area}
 use Rattle.intent_store.proofs.Plants.{armed_by_rest}
-
--- an armed plant has the area of the kernel that runs
-base_fits : (live : AreaId) (u frame : ℕ) → u ≤ 384 → frame < 64 → base_of live u + frame < 1 + 2 * (128 + u)
-base_fits A u frame few low = omega arith
-base_fits B u frame few low = omega arith
-
-base_room : (live : AreaId) (u : ℕ) → u ≤ 384 → base_of live u + 64 ≤ 4294967296
-base_room A u few = omega arith
-base_room B u few = omega arith
-
-area_there : (s : PlantState) → IsArmed s → (frame word : ℕ) → frame < 64 → word < 1024 → is_some (words_of s.memory ((map_of s).area_base + frame) word) ≡ true
-unfolding words_of
-area_there s is frame word low fits =
-    let u = s.shape.user_frames in
-    let below = base_fits s.live u frame is.few_frames low in
-    let count = frame_count-sized u s.memory is.sized in
-    grind (arith, nat_tests, below, count)
-
-pub has_area : (s : PlantState) → IsArmed s → HasArea (words_of s.memory) (map_of s).area_base
-has_area s is = record { numbered = base_room s.live s.shape.user_frames is.few_frames; there = area_there s is }
 
 pub map_same : (old new : PlantState) → rest_of new ≡ rest_of old → map_of new ≡ map_of old
 map_same old new e = ap (λ (s : PlantState). map_of s) e

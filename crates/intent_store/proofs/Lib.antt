@@ -6,7 +6,6 @@ pub mod Words
 pub mod Plants
 pub mod Reading
 pub mod Holding
-pub mod OfMemory
 pub mod Direct
 pub mod Behind
 pub mod Unstored

@@ -2,3 +2,4 @@
 pub mod Blocks
 pub mod Payloads
 pub mod Live
+pub mod OfMemory

@@ -195,7 +195,7 @@ impl Writer for Live<'_> {
     ghost use Rattle.record_layouts.specs.declared.intent.Gate.TheVariants.{Closed};
     ghost use Rattle.ow_plant.specs.State.{PlantState, is_refused};
     ghost use Rattle.intent_store.specs.Live.{IsStanding, IsUnstored, gate_held, held_of, may_refuse, records_held, rest_of};
-    ghost use Rattle.intent_store.proofs.OfMemory.{of_memory};
+    ghost use Rattle.intent_store.specs.OfMemory.{of_memory};
 
     ghost Rest = { PlantState };
 

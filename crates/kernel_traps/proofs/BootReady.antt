@@ -7,7 +7,7 @@ use Rattle.phys_memory.proofs.Words.{IsSized-zeroed, frame_count-sized, words_of
 use Rattle.ow_base.specs.declared.worlds.Load.{Load}
 use Rattle.record_layouts.specs.Overlay.{HasArea, area_at, or_zero}
 use Rattle.ow_plant.specs.State.{PlantState, IsReady}
-use Rattle.intent_store.proofs.Holding.{has_area}
+use Rattle.intent_store.specs.OfMemory.{has_area}
 use Rattle.kernel_traps.specs.BootLayout.{boot_map}
 use Rattle.kernel_builder.specs.Plan.{HasFrames}
 use Rattle.kernel_traps.specs.BootStores.{HasNoneAtBoot, IsBooting}

@@ -18,7 +18,7 @@ use Rattle.intent_store.specs.Live.{records_held}
 use Rattle.ow_plant.specs.Images.{tapes_of}
 use Rattle.kernel_traps.specs.Plants.{IsSound, context_of, unix_at}
 use Rattle.kernel_traps.specs.User.{IsOutside, IsReturned, at_process}
-use Rattle.intent_store.proofs.OfMemory.{of_memory}
+use Rattle.intent_store.specs.OfMemory.{of_memory}
 use Rattle.kernel_traps.proofs.UnixBy.{unix_by, unix_is}
 
 -- the plant with the process in a slot loaded

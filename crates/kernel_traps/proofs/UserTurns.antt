@@ -36,7 +36,7 @@ use Rattle.kernel_traps.specs.Plants.{IsOfDevice, IsRunning, IsSound, context_of
 use Rattle.kernel_traps.specs.User.{IsInUser, IsStepped, IsTurnOf, IsUserTurn}
 use Rattle.kernel_traps.proofs.Causes.{fault_status}
 use Rattle.kernel_traps.proofs.Isolated.{IsKept, gate_stays, kept_first, sets_kept}
-use Rattle.intent_store.proofs.OfMemory.{of_memory}
+use Rattle.intent_store.specs.OfMemory.{of_memory}
 use Rattle.kernel_traps.proofs.Stepping.{processes_now, stepped_to, unix_with}
 use Rattle.kernel_traps.proofs.UnixBy.{unix_by, unix_is}
 

@@ -6,7 +6,8 @@ use Rattle.record_layouts.specs.Overlay.{HasArea, area_at}
 use Rattle.intent_store.specs.Blocks.{IsSeenAs, IsSeenSet}
 use Rattle.intent_store.specs.Live.{held_of, map_of}
 use Rattle.word_store.proofs.Outcomes.{on_ok, on_err, either_way}
-use Rattle.intent_store.proofs.Holding.{committed_as, committed_set, has_area, held_either}
+use Rattle.intent_store.specs.OfMemory.{has_area}
+use Rattle.intent_store.proofs.Holding.{committed_as, committed_set, held_either}
 use Rattle.intent_store.proofs.Unstored.{unstored_held}
 use Rattle.intent_store.proofs.live.LiveWriter.commit.Goals as goal
 

@@ -6,13 +6,32 @@ use Rattle.ow_base.specs.declared.machine.AreaId.TheVariants.{A, B}
 use Rattle.phys_memory.specs.Memory.{words_of}
 use Rattle.phys_memory.proofs.Words.{frame_count-sized, words_of-some}
 use Rattle.record_layouts.specs.Memory.{AreOfMemory}
-use Rattle.record_layouts.specs.Overlay.{area_at, may_change, or_zero}
+use Rattle.record_layouts.specs.Overlay.{HasArea, area_at, may_change, or_zero}
 use Rattle.record_layouts.specs.Pages.{table_frame}
 use Rattle.record_layouts.specs.Reading.{records_in, records_of}
 use Rattle.record_layouts.proofs.Intents.{overlay-beside}
 use Rattle.ow_plant.specs.State.{PlantState, IsArmed}
 use Rattle.intent_store.specs.Live.{base_of, map_of, records_held}
-use Rattle.intent_store.proofs.Holding.{has_area}
+
+-- an armed plant has the area of the kernel that runs
+base_fits : (live : AreaId) (u frame : ℕ) → u ≤ 384 → frame < 64 → base_of live u + frame < 1 + 2 * (128 + u)
+base_fits A u frame few low = omega arith
+base_fits B u frame few low = omega arith
+
+base_room : (live : AreaId) (u : ℕ) → u ≤ 384 → base_of live u + 64 ≤ 4294967296
+base_room A u few = omega arith
+base_room B u few = omega arith
+
+area_there : (s : PlantState) → IsArmed s → (frame word : ℕ) → frame < 64 → word < 1024 → is_some (words_of s.memory ((map_of s).area_base + frame) word) ≡ true
+unfolding words_of
+area_there s is frame word low fits =
+    let u = s.shape.user_frames in
+    let below = base_fits s.live u frame is.few_frames low in
+    let count = frame_count-sized u s.memory is.sized in
+    grind (arith, nat_tests, below, count)
+
+pub has_area : (s : PlantState) → IsArmed s → HasArea (words_of s.memory) (map_of s).area_base
+has_area s is = record { numbered = base_room s.live s.shape.user_frames is.few_frames; there = area_there s is }
 
 -- a word that is there is the word of its area
 some_word : (found : Option ℕ) → is_some found ≡ true → found ≡ Some (or_zero found)
