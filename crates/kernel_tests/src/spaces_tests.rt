@@ -4,15 +4,12 @@ ghost use Rattle.ow_plant.specs.State.{IsArmed};
 ghost use Rattle.record_layouts.specs.Held.{IsCommittable, Records};
 
 use crate::plants::{differ_there, machine, record_words, set_words};
-use address_space::{can_write, copy_space, grow, pages, put_user, user_bytes};
+use address_space::{Efault, can_read, can_write, copy_space, grow, pages, put_user, user_bytes};
 use frame_table::{free_frames, nth_free, page_frame};
 use intent_store::Live;
 use ow_base::{Came, WordSource};
 use ow_plant::Plant;
-use record_layouts::{
-    AnyRec, AreaView, CODE_PAGE, MemoryMap, Patch, ProcRec, RecordId, RecordView, STACK_PAGES,
-    Writer,
-};
+use record_layouts::{AnyRec, AreaView, MemoryMap, Patch, ProcRec, RecordId, RecordView, Writer};
 use std::alloc::{AllocError, Global};
 use std::test::Fail;
 use test_fixtures::{HEAD, HIGH_2, LOW_2, MAP, OWNER_0, PROC, PROC_2, ROOT_2, sealed};
@@ -169,23 +166,17 @@ fn grow_by_two(plant: &mut Plant) -> bool
     ensures free { result ≡ true → plant.new.refusal ≡ None }
 {
     let mut live = Live::new(plant);
-    let Some(process) = live.proc(SLOT) else {
+    if live.head().is_none() || live.user_frames() != USER_FRAMES {
+        return false;
+    }
+    let Some(process) = live.live_proc(SLOT) else {
         return false;
     };
-    let end = CODE_PAGE + pages(&process) - STACK_PAGES;
-    if live.head().is_none() || !process.is_live() || end + 2 > 1024 {
+    // Pages of code begin at 16, and four pages are the stack's: the heap can end at page 1,024.
+    if pages(&process) > 1010 || free_frames(&live, USER_FRAMES) < 2 {
         return false;
     }
-    let user_frames = live.user_frames();
-    free_frames(&live, user_frames) >= 2 && grow(&mut live, SLOT, 2).is_ok()
-}
-
-// No process goes on in the other slot.
-fn is_unused(live: &Live<'_>) -> bool {
-    match live.proc(OTHER) {
-        Some(process) => !process.is_live(),
-        None => true,
-    }
+    grow(&mut live, SLOT, 2).is_ok()
 }
 
 // The pages of the process for a child; whether this was answered by Ok.
@@ -196,14 +187,17 @@ fn copy_for_child(plant: &mut Plant) -> bool
     ensures free { result ≡ true → plant.new.refusal ≡ None }
 {
     let mut live = Live::new(plant);
-    let Some(process) = live.proc(SLOT) else {
-        return false;
-    };
-    if live.head().is_none() || !process.is_live() || !is_unused(&live) {
+    if live.head().is_none() || live.user_frames() != USER_FRAMES {
         return false;
     }
-    let user_frames = live.user_frames();
-    free_frames(&live, user_frames) >= pages(&process) && copy_space(&mut live, SLOT, OTHER).is_ok()
+    let Some(process) = live.live_proc(SLOT) else {
+        return false;
+    };
+    let free = free_frames(&live, USER_FRAMES);
+    if live.live_proc(OTHER).is_some() || free < pages(&process) {
+        return false;
+    }
+    copy_space(&mut live, SLOT, OTHER).is_ok()
 }
 
 // A call in a trap of its own; whether it was answered by Ok.
@@ -404,13 +398,11 @@ fn counted(alloc: Global, call: Call) -> Result<Option<Plant>, AllocError> {
 fn pages_of_zeros_are_counted(rt: HostRuntime) -> Result<(), Fail> {
     let plant = counted(rt.alloc(), Call::Grow)?.ok_or("is not refused")?;
     let view = AreaView::new(&plant, USERS);
-    let mut room = [0xee; 8193];
-    assert_eq!(rt;
-        user_bytes(&view, SLOT, 0x1_2000, &mut room[..8192]),
-        Ok(())
-    );
-    assert_eq!(rt; room[..8192] == [0; 8192], true);
-    assert_eq!(rt; user_bytes(&view, SLOT, 0x1_2000, &mut room).is_ok(), false);
+    let mut room = [0xee; 8192];
+    let read = user_bytes(&view, SLOT, 0x1_2000, &mut room);
+    assert_eq!(rt; read, Ok(()));
+    assert_eq!(rt; room == [0; 8192], true);
+    assert_eq!(rt; can_read(&view, SLOT, 0x1_2000, 8193), Err(Efault));
     assert_eq!(rt; has_pages(&plant, SLOT), true);
     // As many frames are taken as there are pages, so no two pages have the same one.
     assert_eq!(rt; free_frames(&view, USER_FRAMES), 8);
