@@ -273,18 +273,13 @@ fn call_beside(alloc: Global, plant: &mut Plant, call: Call) -> Result<(bool, bo
     Ok((done, differ_there(&words, &after, &[(OWNER_0, 16)])))
 }
 
-// The call whose store of this number is refused. There are many words of records, so they are compared at some of the
-// stores.
+// The call whose store of this number is refused.
 fn trial(alloc: Global, call: Call, store: u32) -> Result<Option<Outcome>, AllocError> {
     let mut plant = machine(alloc, USER_FRAMES, store)?;
     if !prepare(&mut plant) {
         return Ok(None);
     }
-    let (done, records) = if store % 64 == 9 {
-        call_beside(alloc, &mut plant, call)?
-    } else {
-        (call_in_trap(&mut plant, call), true)
-    };
+    let (done, records) = call_beside(alloc, &mut plant, call)?;
     Ok(Some(Outcome {
         done,
         stores: plant.stores_made(),
@@ -306,14 +301,7 @@ fn shape_of(call: Call) -> (u32, u32) {
     }
 }
 
-// A store that is refused: each before the first page, and of each page the first two, the last word, the owner word and
-// the table word. Those between are alike, so one of 64 is.
-fn is_tried(store: u32, first: u32) -> bool {
-    let place = store.wrapping_sub(first) % PAGE_STORES;
-    store < first || place < 2 || place > 1022 || store % 64 == 9
-}
-
-// Refuses the stores of a call in trials of their own, and none in the last trial; the first store whose trial comes to
+// Refuses each store of a call in a trial of its own, and none in the last trial; the first store whose trial comes to
 // something else than it should, with that.
 fn first_wrong(alloc: Global, call: Call) -> Result<Option<(u32, Option<Outcome>)>, AllocError> {
     let (first, pages) = shape_of(call);
@@ -326,11 +314,9 @@ fn first_wrong(alloc: Global, call: Call) -> Result<Option<(u32, Option<Outcome>
             free: true,
             records: true,
         };
-        if is_tried(store, first) {
-            let got = trial(alloc, call, store)?;
-            if got != Some(wanted) {
-                return Ok(Some((store, got)));
-            }
+        let got = trial(alloc, call, store)?;
+        if got != Some(wanted) {
+            return Ok(Some((store, got)));
         }
     }
     Ok(None)
