@@ -1,6 +1,6 @@
 -- Which process is next.
 use Rattle.std.specs.Prelude.{ℕ, zero, suc, ◌+◌, ◌-◌, Bool, true, false, nat_lt, not, ◌==◌, ◌||◌, if◌then◌else◌, Option, Some, None, is_some}
-pub use Rattle.record_layouts.specs.Unix.State.{least_from}
+unfoldable pub use Rattle.record_layouts.specs.Unix.State.{least_from}
 use Rattle.record_layouts.specs.Unix.State.{most_pids, Unix, Process, EndedChild, Description, Object, OnFile, OnTty, CallState, Out, In, Position, AtKernel, AtUser, AtPanic}
 use Rattle.record_layouts.specs.Unix.Calls.{argument, description_of}
 
