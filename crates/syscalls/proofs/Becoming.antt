@@ -205,6 +205,7 @@ module _ (r : Records) (head : HeadRec) (slot : ℕ) (process after : ProcRec) (
     ended = λ q. ended_all i q;
     descriptions = λ number. described_all number i;
     files = λ _. None;
+    room = r.map.user_frames;
     terminals = λ tty. terminal_by (then_tapes tty) (terms tty);
     exits = λ pid. status_by (r.exits pid);
     next_pid = next_is i;
