@@ -17,4 +17,16 @@ pub enum Service {
         len: u32,
         patch: Patch,
     },
+    /// So many pages of zeros are prepared behind the heap of the process, and then the patch is committed, which counts
+    /// them.
+    Grow {
+        count: u32,
+        patch: Patch,
+    },
+    /// The pages of the process are copied for the slot of its child, and then the patch is committed, which makes the
+    /// child.
+    Fork {
+        child: u32,
+        patch: Patch,
+    },
 }
