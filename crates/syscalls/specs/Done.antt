@@ -7,11 +7,11 @@ use Rattle.record_layouts.specs.declared.proc.ProcRec.{ProcRec}
 use Rattle.record_layouts.specs.declared.term.TermRec.{TermRec}
 use Rattle.record_layouts.specs.declared.row.RowRec.{RowRec}
 use Rattle.record_layouts.specs.Held.{Held, Records, with_items}
-use Rattle.address_space.specs.Spaces.{IsCopied, IsGrown, OnlyPrepares}
+use Rattle.address_space.specs.Spaces.{IsGrown, OnlyPrepares}
 use Rattle.record_layouts.specs.Decode.{tape_by}
 use Rattle.record_layouts.specs.Pages.{pages_of}
 use Rattle.record_layouts.specs.Sound.{AreSound}
-use Rattle.syscalls.specs.Planned.{Planned, PlanFork, PlanGrow, PlanOnce, PlanWrite}
+use Rattle.syscalls.specs.Planned.{Planned, PlanGrow, PlanOnce, PlanWrite}
 
 -- Bytes are written on a terminal of which this was the record and the tape: its tape as it decodes has them behind, its
 -- record counts them up to the last number that there is, and what is typed and the last reset stay.
@@ -48,9 +48,6 @@ IsDone r words tapes slot process (PlanWrite tty from len items) done done_words
 IsDone r words tapes slot process (PlanGrow count items) done done_words done_tapes =
     (prepared : Records) × OnlyPrepares slot (held_as r words) (held_as prepared done_words)
     × IsGrown (held_as r words) (held_as prepared done_words) slot count process × (done ≡ with_items prepared items) × (done_tapes ≡ tapes)
-IsDone r words tapes slot process (PlanFork child items) done done_words done_tapes =
-    (prepared : Records) × OnlyPrepares child (held_as r words) (held_as prepared done_words)
-    × IsCopied (held_as r words) (held_as prepared done_words) slot child process × (done ≡ with_items prepared items) × (done_tapes ≡ tapes)
 
 -- The records of a plan keep records sound: those that there are, and, where bytes are written before, those with other
 -- records of terminals and rows, where these are sound.
@@ -61,6 +58,3 @@ KeepsSound r slot process (PlanWrite tty from len items) = (terms : ℕ → Opti
 KeepsSound r slot process (PlanGrow count items) = (words prepared_words : WordMap) (prepared : Records)
     → OnlyPrepares slot (held_as r words) (held_as prepared prepared_words)
     → IsGrown (held_as r words) (held_as prepared prepared_words) slot count process → AreSound (with_items prepared items)
-KeepsSound r slot process (PlanFork child items) = (words prepared_words : WordMap) (prepared : Records)
-    → OnlyPrepares child (held_as r words) (held_as prepared prepared_words)
-    → IsCopied (held_as r words) (held_as prepared prepared_words) slot child process → AreSound (with_items prepared items)

@@ -12,28 +12,23 @@ use Rattle.record_layouts.specs.declared.desc.DescRec.{DescRec}
 use Rattle.record_layouts.specs.declared.patch.PatchItem.{PatchItem}
 use Rattle.record_layouts.specs.Unix.Calls.{tty_piece}
 use Rattle.record_layouts.specs.Held.{Records}
-use Rattle.record_layouts.specs.Pages.{heap_pages, page_total, pages_of}
-use Rattle.record_layouts.specs.Unix.State.{least_from}
-use Rattle.record_layouts.specs.declared.sig.SigRec.{SigRec}
+use Rattle.record_layouts.specs.Pages.{heap_pages, pages_of}
 use Rattle.frame_table.specs.Counts.{pages_of_all}
 use Rattle.syscalls.specs.declared.caller.Caller.{Caller}
-use Rattle.process_table.specs.Patches.{head_item, process_item, ended_items, fork_items, saved_process}
-use Rattle.process_table.specs.Slots.{is_free}
+use Rattle.process_table.specs.Patches.{head_item, process_item, ended_items, saved_process}
 
 -- records are set at once, or after bytes of the process, so many from an address on, are written on a terminal, or after
--- so many pages are prepared behind its heap, or a copy of its pages for the slot of a child
+-- so many pages are prepared behind its heap
 pub data Planned : Type 0 where
   PlanOnce : (items : List PatchItem) → Planned
   PlanWrite : (tty from len : ℕ) (items : List PatchItem) → Planned
   PlanGrow : (count : ℕ) (items : List PatchItem) → Planned
-  PlanFork : (child : ℕ) (items : List PatchItem) → Planned
 
 -- the records that are set
 abbrev pub items_in : Planned → List PatchItem
 items_in (PlanOnce items) = items
 items_in (PlanWrite tty from len items) = items
 items_in (PlanGrow count items) = items
-items_in (PlanFork child items) = items
 
 -- the argument registers of a process
 abbrev pub argument_of : ProcRec → (index : ℕ) → ℕ
@@ -138,25 +133,13 @@ planned_sbrk r c =
     then planned_answer c (minus 12)
     else PlanGrow (pages_more c.process bytes) (items_of c (grown_process c.process bytes))
 
--- fork(): EAGAIN 11 where no slot is free or no pid is left, ENOMEM 12 where there is no room for a copy of the pages
-abbrev pub planned_fork_in : Records → Caller → (child : Option ℕ) → Option SigRec → Planned
-planned_fork_in r c (Some child) (Some signals) =
-    if nat_lt 256 c.head.next then planned_answer c (minus 11) else
-    if nat_lt r.map.user_frames (pages_of_all r 16 + page_total c.process) then planned_answer c (minus 12) else
-    PlanFork child (fork_items c.head c.slot child c.process signals c.trap)
-planned_fork_in r c child signals = planned_answer c (minus 11)
-
-unfoldable pub planned_fork : Records → Caller → Planned
-planned_fork r c = planned_fork_in r c (least_from (λ slot. is_free r (r.procs slot)) 0 16) (r.sigs c.slot)
-
--- the call with this number: exit, write, getpid, sbrk, fork, yield; a number that is no call answers ENOSYS 38
+-- the call with this number: exit, write, getpid, sbrk, yield; a number that is no call answers ENOSYS 38
 unfoldable pub planned_number : Records → Pages → Caller → (number : ℕ) → Planned
 planned_number r pages c number =
     if number == 1 then PlanOnce (ended_items c.head c.slot c.process (argument_of c.process 0 % 256) c.trap) else
     if number == 2 then planned_write r pages c else
     if number == 7 then planned_answer c c.process.pid else
     if number == 8 then planned_sbrk r c else
-    if number == 9 then planned_fork r c else
     if number == 18 then PlanOnce (items_of c (yielded_process c.process)) else
     planned_answer c (minus 38)
 

@@ -23,10 +23,4 @@ pub enum Service {
         count: u32,
         patch: Patch,
     },
-    /// The pages of the process are copied for the slot of its child, and then the patch is committed, which makes the
-    /// child.
-    Fork {
-        child: u32,
-        patch: Patch,
-    },
 }

@@ -1,10 +1,10 @@
 -- The system calls: the number is in a7, the arguments are in a0, a1 and a2, and the answer comes in a0.
-use Rattle.std.specs.Prelude.{ℕ, ◌+◌, ◌-◌, ◌%◌, Bool, true, false, nat_lt, nat_le, ◌==◌, ◌||◌, not, if◌then◌else◌, min, List, ◌++◌, slice_get, Option, Some, None, option_and_then, is_some}
+use Rattle.std.specs.Prelude.{ℕ, ◌+◌, ◌-◌, ◌%◌, Bool, true, false, nat_lt, ◌==◌, ◌||◌, not, if◌then◌else◌, min, List, ◌++◌, slice_get, Option, Some, None, option_and_then, is_some}
 use Rattle.ow_base.specs.Words.{wrapped, minus, updated}
 use Rattle.ow_base.specs.UserStep.{register, with_register}
 use Rattle.ow_base.specs.Pages.{is_readable, bytes_at}
-use Rattle.record_layouts.specs.Unix.Spaces.{break_of, heap_end, heap_pages, pages_of_all, pages_of_one, with_zero_pages}
-use Rattle.record_layouts.specs.Unix.State.{count_from, most_pids, Unix, Process, CallState, Out, In, AtKernel, EndedChild, Object, OnFile, OnTty, Description, Terminal, in_use}
+use Rattle.record_layouts.specs.Unix.Spaces.{break_of, heap_end, heap_pages, pages_of_all, with_zero_pages}
+use Rattle.record_layouts.specs.Unix.State.{Unix, Process, CallState, Out, In, AtKernel, EndedChild, Object, OnFile, OnTty, Description, Terminal, in_use}
 
 -- the argument registers, and the register of the call's number
 abbrev pub argument : Process → (index : ℕ) → ℕ
@@ -125,35 +125,6 @@ sbrk_entry u pid p =
     then answered u pid p (minus 12)
     else answered u pid (record p { brk = p.brk + argument p 0; pages = with_zero_pages p.pages (heap_end p.pages) new }) (break_of p)
 
--- a pid has a slot: it is of a live process, or of an ended one that was not waited for
-abbrev pub has_slot : Unix → (pid : ℕ) → Bool
-has_slot u pid = is_some (u.processes pid) || is_some (u.ended pid)
-
--- how many slots are taken
-unfoldable pub slots_taken : Unix → ℕ
-slots_taken u = count_from (has_slot u) 1 most_pids
-
--- the child of a process: a copy behind the call, to which it answers 0, with the process as its parent and no signal pending
-abbrev pub child_of_fork : (parent : ℕ) → Process → Process
-child_of_fork parent p = record p {
-  call = Out;
-  bank = record { pc = wrapped (p.bank.pc + 4); regs = with_register p.bank.regs 10 0 };
-  pending = λ _. false;
-  parent = parent;
-}
-
--- the state with a child of the process, under the next pid
-abbrev pub with_child : Unix → (pid : ℕ) → Process → Unix
-with_child u pid p = record (with_process u u.next_pid (child_of_fork pid p)) { next_pid = u.next_pid + 1 }
-
--- fork(): EAGAIN 11 where all 16 slots are taken or 256 processes were made, ENOMEM 12 where there is no room for a copy of
--- the pages; else the child's pid
-unfoldable pub fork_entry : Unix → (pid : ℕ) → Process → Unix
-fork_entry u pid p =
-    if nat_le 16 (slots_taken u) || nat_lt most_pids u.next_pid then answered u pid p (minus 11) else
-    if nat_lt u.room (pages_of_all u.processes + pages_of_one (Some p)) then answered u pid p (minus 12) else
-    answered (with_child u pid p) pid p u.next_pid
-
 -- the call with this number; a number that is no call answers ENOSYS 38
 unfoldable pub called : Unix → (pid : ℕ) → Process → (number : ℕ) → Unix
 called u pid p number =
@@ -161,7 +132,6 @@ called u pid p number =
     if number == 2 then write_entry u pid p else
     if number == 7 then getpid_entry u pid p else
     if number == 8 then sbrk_entry u pid p else
-    if number == 9 then fork_entry u pid p else
     if number == 18 then yield_entry u pid p else
     answered u pid p (minus 38)
 
