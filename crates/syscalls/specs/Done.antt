@@ -7,6 +7,8 @@ use Rattle.record_layouts.specs.declared.proc.ProcRec.{ProcRec}
 use Rattle.record_layouts.specs.declared.term.TermRec.{TermRec}
 use Rattle.record_layouts.specs.declared.row.RowRec.{RowRec}
 use Rattle.record_layouts.specs.Held.{Held, Records, with_items}
+use Rattle.frame_table.specs.Counts.{pages_of_all}
+use Rattle.frame_table.specs.Free.{free_before}
 use Rattle.address_space.specs.Spaces.{IsGrown, OnlyPrepares}
 use Rattle.record_layouts.specs.Decode.{tape_by}
 use Rattle.record_layouts.specs.Pages.{pages_of}
@@ -33,6 +35,10 @@ pub record AreWritten (r : Records) (tapes : ℕ → List ℕ) (tty : ℕ) (byte
   pub own_tape : written_tapes tty ≡ tapes tty ++ bytes
   pub other_tapes : (other : ℕ) → other ≢ tty → written_tapes other ≡ tapes other
   pub counted : AreCountedBy bytes (tapes tty) (written_tapes tty) (r.terms tty) (written.terms tty)
+
+-- the free user frames and the pages of all live processes are all user frames
+abbrev pub AreCountedFrames : Records → Type 0
+AreCountedFrames r = free_before r r.map.user_frames + pages_of_all r 16 ≡ r.map.user_frames
 
 -- records and the words of pages, as what is held
 abbrev pub held_as : Records → WordMap → Held (Unit {0})

@@ -13,7 +13,7 @@ use Rattle.record_layouts.specs.declared.patch.PatchItem.{PatchItem}
 use Rattle.record_layouts.specs.Unix.Calls.{tty_piece}
 use Rattle.record_layouts.specs.Held.{Records}
 use Rattle.record_layouts.specs.Pages.{heap_pages, pages_of}
-use Rattle.frame_table.specs.Counts.{pages_of_all}
+use Rattle.frame_table.specs.Free.{free_before}
 use Rattle.syscalls.specs.declared.caller.Caller.{Caller}
 use Rattle.process_table.specs.Patches.{head_item, process_item, ended_items, saved_process}
 
@@ -125,11 +125,11 @@ grown_process process bytes = record (answered_process process (break_of process
 abbrev pub pages_more : ProcRec → (bytes : ℕ) → ℕ
 pages_more process bytes = (process.brk + bytes + 4095) / 4096 - heap_pages process
 
--- sbrk(n): ENOMEM 12 where the break would pass 0x00400000 or there is no room for the pages
+-- sbrk(n): ENOMEM 12 where the break would pass 0x00400000 or fewer user frames are free than the pages take
 unfoldable pub planned_sbrk : Records → Caller → Planned
 planned_sbrk r c =
     let bytes = argument_of c.process 0 in
-    if nat_lt 0x400000 (break_of c.process + bytes) || nat_lt r.map.user_frames (pages_of_all r 16 + pages_more c.process bytes)
+    if nat_lt 0x400000 (break_of c.process + bytes) || nat_lt (free_before r r.map.user_frames) (pages_more c.process bytes)
     then planned_answer c (minus 12)
     else PlanGrow (pages_more c.process bytes) (items_of c (grown_process c.process bytes))
 
