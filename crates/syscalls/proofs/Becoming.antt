@@ -134,6 +134,7 @@ module _ (r : Records) (head : HeadRec) (slot : ℕ) (process after : ProcRec) (
   stays_mapped place other mapped = mapped_stays base (Some (record head { served = trap; last = process.pid })) (updated r.procs slot (Some after)) terms rows place other ∙ mapped
 
   here : process_at become words_then process.pid ≡ Some then_is
+  unfolding pid_in
   here =
       let exit : slot_by (r.exits after.pid) ≡ Some slot = ap (λ (p : ℕ). slot_by (r.exits p)) next.pid ∙ sound.numbered.exit slot process is in
       let seat : pid_in become slot ≡ Some after.pid =
@@ -146,6 +147,7 @@ module _ (r : Records) (head : HeadRec) (slot : ℕ) (process after : ProcRec) (
       ∙ ap (λ (p : Process). Some p) (decoded_stays base (Some (record head { served = trap; last = process.pid })) (updated r.procs slot (Some after)) terms rows words_then slot after)
 
   there_too : (q : ℕ) → (live : Living r words q) → (q ≡ process.pid → ⊥) → process_at become words_then q ≡ process_at r words q
+  unfolding pid_in
   there_too q live apart =
       let places : live.slot ≡ slot → ⊥ = λ same.
       apart (sound.numbered.one_slot q process.pid slot (subst (λ (k : ℕ). slot_by (r.exits q) ≡ Some k) same live.exit) (sound.numbered.exit slot process is)) in

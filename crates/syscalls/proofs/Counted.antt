@@ -17,21 +17,24 @@ use Rattle.record_layouts.proofs.Least.{least_found, least_none}
 use Rattle.frame_table.specs.Counts.{pages_of_all, total_of}
 use Rattle.frame_table.proofs.Counting.{fits_there, in_or_out, low_end, region_none, region_there, values_end}
 use Rattle.address_space.specs.Spaces.{heap_end}
-use Rattle.process_table.proofs.PidSums.{live_seat, over_slots}
+use Rattle.process_table.proofs.PidSums.{over_slots}
 use Rattle.process_table.proofs.Seats.{found_in}
 use Rattle.syscalls.specs.Planned.{break_of}
 
 -- a sum with one number more behind
 sum_behind : (f : ℕ → ℕ) (first count : ℕ) → sum_from f first (suc count) ≡ sum_from f first count + f (first + count)
 unfolding sum_from
-sum_behind f first zero = ap (λ n. f n + 0) (omega arith) ∙ omega arith
+sum_behind f first zero = let place : f (first + 0) ≡ f first = ap f (omega arith) in omega (arith, place)
 sum_behind f first (suc count) =
     let behind = sum_behind f (first + 1) count in
     let place : f (first + 1 + count) ≡ f (first + suc count) = ap f (omega arith) in
     omega (arith, behind, place)
 
 sum_last : (f : ℕ → ℕ) (count : ℕ) → sum_from f 0 (suc count) ≡ sum_from f 0 count + f count
-sum_last f count = sum_behind f 0 count ∙ ap (λ k. sum_from f 0 count + f k) (omega arith)
+sum_last f count =
+    let behind = sum_behind f 0 count in
+    let place : f (0 + count) ≡ f count = ap f (omega arith) in
+    omega (arith, behind, place)
 
 sum_ones : (f : ℕ → ℕ) (first count end : ℕ) → end ≡ first + count → ((k : ℕ) → first ≤ k → k < end → f k ≡ 1) → sum_from f first count ≡ count
 unfolding sum_from
@@ -135,10 +138,12 @@ decoded_pages r words slot process fits live = all_pages process fits live
 module _ (r : Records) (words : WordMap) (context : Context) (sound : AreSound r) where
   pages_in_slot : (slot : ℕ) (process : ProcRec) → IsIn r slot process → unix.pages_of_one (processes_of r words context process.pid) ≡ total_in r slot
   pages_in_slot slot process is =
+      let live = is.live in
+      let seat : live_one (r.procs slot) ≡ Some process = ap live_one is.there ∙ rw live refl in
       pages_alike r words context process.pid
       ∙ (ap unix.pages_of_one (found_in r words slot process sound is)
       ∙ (decoded_pages r words slot process (fits_there r slot process sound.values is.there) is.live
-      ∙ sym (ap total_of (live_seat r slot process is))))
+      ∙ sym (ap total_of seat)))
 
   pub all_counted : unix.pages_of_all (processes_of r words context) ≡ pages_of_all r 16
   unfolding unix.pages_of_all
