@@ -1,5 +1,5 @@
 -- How many pages all live processes have, where their heaps end, and where their breaks are, in the Unix as by records.
-use Rattle.std.proofs.Common.{◌≡◌, ◌==◌, if◌then◌else◌, ℕ, zero, suc, ◌+◌, ◌-◌, ◌*◌, ◌<◌, ◌≤◌, Bool, true, false, min, nat_lt, not, Option, Some, None, is_some, inl, inr, refl, sym, ap, ◌∙◌, arith}
+use Rattle.std.proofs.Common.{◌≡◌, ◌==◌, if◌then◌else◌, ℕ, zero, suc, ◌+◌, ◌-◌, ◌<◌, ◌≤◌, true, false, min, nat_lt, not, Option, Some, None, is_some, inl, inr, refl, sym, ap, ◌∙◌, arith}
 use Rattle.std.proofs.lemmas.Bool.{cases_Bool, cases_lt}
 use Rattle.std.proofs.lemmas.Bool.Decides.{nat_tests}
 use Rattle.ow_base.specs.Sv32.{WordMap}
@@ -10,12 +10,12 @@ use Rattle.record_layouts.specs.Unix.State.{Process, count_from, sum_from}
 use Rattle.record_layouts.specs.Unix.Spaces as unix
 use Rattle.record_layouts.specs.Decode.{Context, InKernel, InUser, process_at, process_of, processes_of, with_bank}
 use Rattle.record_layouts.specs.Held.{Records}
-use Rattle.record_layouts.specs.Pages.{heap_pages, is_live, live_one, page_total, pages_of, region_of}
+use Rattle.record_layouts.specs.Pages.{is_live, live_one, page_total, pages_of, region_of}
 use Rattle.record_layouts.specs.Proc.{FitsProc}
 use Rattle.record_layouts.specs.Sound.{AreSound, IsIn}
 use Rattle.record_layouts.proofs.Least.{least_found, least_none}
 use Rattle.frame_table.specs.Counts.{pages_of_all, total_of}
-use Rattle.frame_table.proofs.Counting.{fits_there, in_or_out, low_end, region_none, region_there, values_end}
+use Rattle.frame_table.proofs.Counting.{fits_there, low_end, region_none, region_there, values_end}
 use Rattle.address_space.specs.Spaces.{heap_end}
 use Rattle.process_table.proofs.PidSums.{over_slots}
 use Rattle.process_table.proofs.Seats.{found_in}

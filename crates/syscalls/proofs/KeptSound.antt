@@ -1,5 +1,5 @@
 -- Records on which a call is served are sound again.
-use Rattle.std.proofs.Common.{◌≡◌, ◌≢◌, ◌==◌, ◌||◌, if◌then◌else◌, ℕ, zero, suc, ◌+◌, ◌-◌, ◌/◌, ◌%◌, ◌<◌, ◌≤◌, Bool, true, false, nat_lt, min, List, [], ◌∷◌, length, slice_get, slice_index, Option, Some, None, IfSome, inl, inr, refl, sym, ap, subst, ◌∙◌, arith}
+use Rattle.std.proofs.Common.{◌≡◌, ◌≢◌, ◌==◌, ◌||◌, ℕ, zero, suc, ◌+◌, ◌-◌, ◌/◌, ◌%◌, ◌<◌, ◌≤◌, Bool, true, false, nat_lt, List, [], ◌∷◌, length, slice_get, slice_index, Option, Some, None, IfSome, inl, inr, refl, sym, subst, arith}
 use Rattle.std.proofs.lemmas.Bool.{cases_Bool}
 use Rattle.std.proofs.lemmas.Bool.Decides.{eqb_tells, nat_tests}
 use Rattle.ow_base.specs.Sv32.{WordMap}
@@ -15,17 +15,16 @@ use Rattle.record_layouts.specs.declared.term.TermRec.{TermRec}
 use Rattle.record_layouts.specs.declared.row.RowRec.{RowRec}
 use Rattle.record_layouts.specs.Unix.Calls.{tty_piece}
 use Rattle.record_layouts.specs.Held.{Records, with_items}
-use Rattle.record_layouts.specs.Pages.{is_live, pages_of}
+use Rattle.record_layouts.specs.Pages.{pages_of}
 use Rattle.record_layouts.specs.Proc.{FitsLive, FitsProc}
-use Rattle.record_layouts.specs.Sound.{IsIn, IsInCall, IsOpenTo, IsTransfer, AreSound}
+use Rattle.record_layouts.specs.Sound.{IsIn, IsInCall, IsOpenTo, AreSound}
 use Rattle.record_layouts.specs.Spelling.{IsStatus}
 use Rattle.frame_table.specs.Free.{free_before}
 use Rattle.address_space.specs.Spaces.{IsGrown, OnlyPrepares}
 use Rattle.process_table.specs.Patches.{bank_of, ended_items, saved_process}
 use Rattle.process_table.proofs.Ended.{live_fits}
 use Rattle.process_table.proofs.EndedSound.{ended_sound}
-use Rattle.process_table.proofs.Regions.{SameRegions}
-use Rattle.syscalls.specs.Planned.{Planned, PlanGrow, PlanOnce, PlanWrite, answered_process, argument_of, break_of, caller_with, grown_process, if_open, is_written, items_of, named, named_by, pages_more, planned_answer, planned_call, planned_further, planned_number, planned_on, planned_piece, planned_sbrk, planned_tty, planned_write, planned_write_on, staying_process, stopped_answer, written_process, yielded_process}
+use Rattle.syscalls.specs.Planned.{PlanGrow, answered_process, argument_of, break_of, caller_with, grown_process, if_open, is_written, items_of, named, named_by, pages_more, planned_call, planned_further, planned_number, planned_on, planned_piece, planned_sbrk, planned_tty, planned_write, planned_write_on, staying_process, stopped_answer, written_process, yielded_process}
 use Rattle.syscalls.specs.Done.{KeepsSound, held_as}
 use Rattle.syscalls.proofs.Becoming.{IsAfter, prepared}
 use Rattle.syscalls.proofs.AfterSound.{after_sound, next_sound}

@@ -1,25 +1,21 @@
 -- What a call makes of the records is what it makes of the state that they stand for.
-use Rattle.std.proofs.Common.{◌≡◌, ◌≢◌, ◌==◌, ◌||◌, if◌then◌else◌, ℕ, ◌+◌, ◌-◌, ◌%◌, ◌<◌, ◌≤◌, Bool, true, false, nat_lt, not, List, [], ◌∷◌, map, slice_get, Option, Some, None, IfSome, inl, inr, refl, sym, ap, subst, ◌∙◌, arith}
-use Rattle.std.proofs.lemmas.Bool.{cases_Bool, ne_eqb}
-use Rattle.std.proofs.lemmas.Bool.Decides.{nat_tests}
-use Rattle.std.proofs.lemmas.Grind.{common_steps}
+use Rattle.std.proofs.Common.{◌≡◌, ◌==◌, ◌||◌, if◌then◌else◌, ℕ, ◌+◌, ◌%◌, ◌≤◌, Bool, true, false, nat_lt, List, Option, Some, None, inl, inr, refl, sym, ap, subst, ◌∙◌, arith}
+use Rattle.std.proofs.lemmas.Bool.{cases_Bool}
 use Rattle.ow_base.specs.Sv32.{WordMap}
-use Rattle.ow_base.specs.Words.{minus, updated, wrapped}
+use Rattle.ow_base.specs.Words.{minus, wrapped}
 use Rattle.ow_base.specs.UserStep.{register, with_register}
 use Rattle.ow_base.specs.Pages.{bytes_at, is_readable}
-use Rattle.ow_base.specs.declared.machine.Bank.{Bank}
 use Rattle.record_layouts.specs.declared.head.HeadRec.{HeadRec}
 use Rattle.record_layouts.specs.declared.proc.ProcRec.{ProcRec}
 use Rattle.record_layouts.specs.declared.desc.DescRec.{DescRec}
-use Rattle.record_layouts.specs.declared.patch.PatchItem.{PatchItem}
-use Rattle.record_layouts.specs.Unix.State.{Unix, Process, Terminal, Out, In, Description, OnTty, OnFile}
-use Rattle.record_layouts.specs.Unix.Calls.{answered, argument, call_number, called, continued, description_of, call_entered, ended_as, exit_entry, piece_by, piece_on, piece_of, sbrk_entry, stays_in, stopped, trapped, tty_piece, tty_write, with_process, write_entry, write_on, write_through, written_on, written_to, yield_entry, getpid_entry}
+use Rattle.record_layouts.specs.Unix.State.{Unix, Process, Terminal, In}
+use Rattle.record_layouts.specs.Unix.Calls.{answered, called, continued, description_of, call_entered, exit_entry, piece_by, piece_on, piece_of, sbrk_entry, stays_in, trapped, tty_piece, tty_write, with_process, write_entry, write_on, write_through, written_on, written_to, yield_entry, getpid_entry}
 use Rattle.record_layouts.specs.Unix.Spaces.{with_zero_pages}
 use Rattle.record_layouts.specs.Unix.Spaces as unix
 use Rattle.record_layouts.specs.Held.{Records, with_items}
-use Rattle.record_layouts.specs.Pages.{is_live, is_mapped, pages_of}
+use Rattle.record_layouts.specs.Pages.{is_mapped, pages_of}
 use Rattle.record_layouts.specs.Proc.{FitsProc}
-use Rattle.record_layouts.specs.Decode.{Context, InKernel, InUser, call_of, descriptor_of, object_of, process_of, processes_of, terminal_by, unix_of}
+use Rattle.record_layouts.specs.Decode.{Context, InKernel, process_of, processes_of, unix_of}
 use Rattle.record_layouts.specs.Sound.{IsIn, AreSound}
 use Rattle.frame_table.specs.Counts.{pages_of_all}
 use Rattle.frame_table.specs.Free.{free_before}
@@ -32,7 +28,7 @@ use Rattle.process_table.proofs.EndedUnix.{ended_unix}
 use Rattle.process_table.proofs.Endings.{ended_records}
 use Rattle.process_table.proofs.Saving.{set_itself}
 use Rattle.process_table.proofs.Seats.{pid_range}
-use Rattle.syscalls.specs.Planned.{Planned, PlanGrow, PlanOnce, PlanWrite, answered_process, argument_of, break_of, caller_with, grown_process, is_written, if_open, items_of, named, named_by, pages_more, planned_answer, planned_call, planned_further, planned_nothing, planned_number, planned_on, planned_piece, planned_sbrk, planned_tty, planned_write, planned_write_on, staying_process, stopped_answer, written_process, yielded_process}
+use Rattle.syscalls.specs.Planned.{PlanGrow, PlanOnce, PlanWrite, answered_process, argument_of, break_of, caller_with, grown_process, is_written, items_of, named, pages_more, planned_answer, planned_call, planned_further, planned_nothing, planned_number, planned_on, planned_piece, planned_sbrk, planned_tty, planned_write, planned_write_on, staying_process, stopped_answer, written_process, yielded_process}
 use Rattle.syscalls.specs.Done.{AreCountedFrames, AreWritten, IsDone, held_as}
 use Rattle.syscalls.proofs.Becoming.{IsAfter, OthersStay, bank_by, becoming, becomes, becomes_then, caller_decodes, prepared}
 use Rattle.syscalls.proofs.Counted.{all_counted, break_is, heap_ends, room_same}

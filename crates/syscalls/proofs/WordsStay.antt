@@ -9,7 +9,7 @@ use Rattle.record_layouts.specs.Unix.Calls.{tty_piece}
 use Rattle.record_layouts.specs.Held.{Records}
 use Rattle.record_layouts.specs.Pages.{pages_of}
 use Rattle.syscalls.specs.declared.caller.Caller.{Caller}
-use Rattle.syscalls.specs.Planned.{Planned, PlanWrite, argument_of, caller_with, items_of, named, planned_answer, planned_further, planned_nothing, planned_of_call, planned_on, planned_piece, planned_tty, stopped_answer, written_process}
+use Rattle.syscalls.specs.Planned.{Planned, PlanWrite, argument_of, caller_with, items_of, named, planned_answer, planned_further, planned_nothing, planned_of_call, planned_piece, planned_tty, stopped_answer, written_process}
 use Rattle.syscalls.specs.Done.{IsDone}
 
 module _ (r : Records) (words : WordMap) (tapes : ℕ → List ℕ) (slot : ℕ) (process : ProcRec) (done : Records) (done_words : WordMap) (done_tapes : ℕ → List ℕ) where
