@@ -51,7 +51,8 @@ pub const fn sound_records_serve()
 {}
 
 /// Records on which what a call asks for is done are sound again. Where bytes are written before, so must be the
-/// records that this leaves; pages that are prepared before count then. The eight words of descriptors are those of the process's record.
+/// records that this leaves; pages that are prepared before count then. The eight words of descriptors are those of the
+/// process's record.
 pub const fn calls_keep_sound()
     ensures calls { (r : Records) (words : WordMap) (slot trap : ℕ) (head : HeadRec) (process : ProcRec) (bank : Bank) → AreSound r → r.head ≡ Some head → IsIn r slot process
         → process.state ≡ 1 → length process.descs ≡ 8 → KeepsSound r slot process (planned_call r words slot trap head process bank) }
