@@ -115,6 +115,7 @@ module _ (r : Records) (terms : ℕ → Option TermRec) (rows : ℕ → Option R
     ended = (ended_still (processes_of shown words context) ∙ ap (ended_of r) (processes_still context)) i;
     descriptions = in_use (processes_still context i) (λ number. description_by (r.descs number));
     files = λ _. None;
+    room = r.map.user_frames;
     terminals = λ tty. terminal_by (others tty) (terms tty);
     exits = λ pid. status_by (r.exits pid);
     next_pid = next_by r.head;

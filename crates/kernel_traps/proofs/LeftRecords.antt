@@ -215,6 +215,7 @@ left_undone r words tapes t context h head steps traps is_head undone handed had
       ended = ended_same r (processes_of r words InKernel) before (live_in r words context) i;
       descriptions = used_same (processes_of r words InKernel) before (λ number. description_by (r.descs number)) (named_in r words context) i;
       files = λ _. None;
+      room = r.map.user_frames;
       terminals = λ tty. terminal_by (tapes tty) (r.terms tty);
       exits = λ pid. status_by (r.exits pid);
       next_pid = (ap (next_by_left r) is_head ∙ sym (ap next_by is_head)) i;

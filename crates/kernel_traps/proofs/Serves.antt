@@ -68,6 +68,7 @@ module _ (r : Records) (head : HeadRec) (trap : ℕ) (words : WordMap) (is_head 
     ended = (ended_still (processes_of then_r words InKernel) ∙ ap (ended_of r) processes_still) i;
     descriptions = in_use (processes_still i) (λ number. description_by (r.descs number));
     files = λ _. None;
+    room = r.map.user_frames;
     terminals = λ tty. terminal_by (tapes tty) (r.terms tty);
     exits = λ pid. status_by (r.exits pid);
     next_pid = sym (ap next_by is_head) i;

@@ -14,7 +14,7 @@ ghost use Rattle.kernel_traps.specs.Putting.{IsPut, IsPutPartly};
 ghost use Rattle.kernel_traps.specs.Carrying.{HasRoom, HasRoomFor, IsCarriedOut, IsWritten, MayBeLeft, MayBeLeftOfWrite, bytes_of};
 ghost use Rattle.kernel_traps.specs.Ending.{CanBeServed};
 
-use address_space::user_bytes;
+use address_space::{grow, user_bytes};
 use intent_store::Live;
 use ow_base::Panicked;
 use record_layouts::{Patch, Writer};
@@ -105,6 +105,12 @@ fn write_piece(
     live.commit(&patch.view())
 }
 
+// Prepares so many pages behind the heap of the process in the slot, and sets the records of a patch, which count them.
+fn grow_heap(live: &mut Live<'_>, slot: u32, count: u32, patch: &Patch) -> Result<(), Panicked> {
+    grow(live, slot, count)?;
+    live.commit(&patch.view())
+}
+
 /// Does what a call asks for: the bytes of the process go out, each counted first, and the patch is committed last.
 ///
 /// `Panicked` comes only where a store was refused. Then a front of the bytes is out, of the next one the terminal's
@@ -134,5 +140,6 @@ pub(crate) fn carry_out(live: &mut Live<'_>, slot: u32, service: &Service) -> Re
             len,
             patch,
         } => write_piece(live, slot, *tty, *from, *len, patch),
+        Service::Grow { count, patch } => grow_heap(live, slot, *count, patch),
     }
 }

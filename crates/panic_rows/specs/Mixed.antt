@@ -53,6 +53,7 @@ mixed = record {
   ended = mixed_ended;
   descriptions = slice_get mixed_descriptions;
   files = λ file. None;
+  room = 16;
   terminals = λ tty. record { tape = 65 ∷ 66 ∷ []; base = 0; consumed = 0 };
   exits = λ pid. option_map (λ child. child.status) (mixed_ended pid);
   next_pid = 14;

@@ -187,6 +187,7 @@ changed_unix r head slot process new sigs trap words tapes context steps traps p
       ended = children i;
       descriptions = descriptions i;
       files = λ _. None;
+      room = r.map.user_frames;
       terminals = λ tty. terminal_by (tapes tty) (r.terms tty);
       exits = λ q. status_by (r.exits q);
       next_pid = next i;

@@ -255,6 +255,7 @@ ended_unix r head slot process status trap words tapes context steps traps p sou
       ended = children i;
       descriptions = descriptions i;
       files = λ _. None;
+      room = r.map.user_frames;
       terminals = λ tty. terminal_by (tapes tty) (r.terms tty);
       exits = λ q. status_now r.exits process.pid status q i;
       next_pid = next i;

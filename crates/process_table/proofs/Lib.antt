@@ -17,4 +17,5 @@ pub mod Saving
 pub mod Running
 pub mod Chosen
 pub mod Signalling
+pub mod PidSums
 pub mod Descriptors

@@ -1,6 +1,6 @@
 -- What traps count, and what they put on tapes.
 use Rattle.std.proofs.Common.{◌≡◌, ◌∙◌, ◌+◌, ◌-◌, ◌%◌, ◌==◌, ℕ, nat_lt, Bool, true, false, List, [], ◌++◌, Option, Some, None, inl, inr, refl, sym, ap, subst, arith}
-use Rattle.std.specs.Prelude.{if◌then◌else◌, not, slice_index}
+use Rattle.std.specs.Prelude.{if◌then◌else◌, not, slice_index, ◌||◌}
 use Rattle.std.proofs.lemmas.Bool.{cases_Bool}
 use Rattle.std.proofs.lemmas.Bool.Decides.{nat_tests}
 use Rattle.std.proofs.lemmas.List.{append-nil}
@@ -10,7 +10,8 @@ use Rattle.ow_base.specs.Pages.{Pages, is_readable, bytes_at}
 use Rattle.ow_base.specs.declared.machine.Shape.{Shape}
 use Rattle.record_layouts.specs.Unix.State.{Unix, Process, Terminal, Position, AtKernel, AtUser, AtPanic, CallState, Out, In, Object, OnFile, OnTty, Description}
 use Rattle.record_layouts.specs.Unix.Choice.{Keys, no_keys, chosen, deliverable, settled, settled_at, settled_on, settled_to, returned_as}
-use Rattle.record_layouts.specs.Unix.Calls.{argument, call_number, trapped, answered, stays_in, ended_as, description_of, tty_piece, tty_write, written_to, written_on, write_on, write_through, write_entry, exit_entry, getpid_entry, yield_entry, called, call_entered, piece_on, continued, piece_by, piece_of}
+use Rattle.record_layouts.specs.Unix.Calls.{argument, call_number, trapped, answered, stays_in, ended_as, description_of, tty_piece, tty_write, written_to, written_on, write_on, write_through, write_entry, exit_entry, getpid_entry, yield_entry, sbrk_entry, called, call_entered, piece_on, continued, piece_by, piece_of}
+use Rattle.record_layouts.specs.Unix.Spaces.{break_of, heap_end, heap_pages, pages_of_all, with_zero_pages}
 use Rattle.record_layouts.specs.Unix.Signals.{signalled, signalled_by}
 use Rattle.record_layouts.specs.Unix.Turn.{closed, idled, step_of, stepped, turn}
 use Rattle.record_layouts.specs.Unix.Traps.{pid_of, trap_of_step, trap_of_user, signal_or_piece_of, trap_if_live, trap_or_idle, trap_at, trap_of_turn, after_trap, instructed, instructed_by, steps_in, turned_by}
@@ -85,16 +86,27 @@ yield_alike : (u : Unix) (pid : ℕ) (p : Process) → AreAlike u (yield_entry u
 unfolding yield_entry
 yield_alike u pid p = record { steps = refl; traps = refl; last = refl; tapes = as_they_are u }
 
+sbrk_alike : (u : Unix) (pid : ℕ) (p : Process) → AreAlike u (sbrk_entry u pid p)
+unfolding sbrk_entry
+sbrk_alike u pid p =
+    let new = heap_pages (p.brk + argument p 0) - heap_pages p.brk in
+    let grown = answered u pid (record p { brk = p.brk + argument p 0; pages = with_zero_pages p.pages (heap_end p.pages) new }) (break_of p) in
+    if_alike u (answered u pid p (minus 12)) grown (nat_lt 0x400000 (break_of p + argument p 0) || nat_lt u.room (pages_of_all u.processes + new))
+    (answered_alike u pid p (minus 12))
+    (answered_alike u pid (record p { brk = p.brk + argument p 0; pages = with_zero_pages p.pages (heap_end p.pages) new }) (break_of p))
+
 called_alike : (u : Unix) (pid : ℕ) (p : Process) (number : ℕ) → AreAlike u (called u pid p number)
 unfolding called exit_entry write_entry getpid_entry
 called_alike u pid p number =
-    let rest3 = if number == 18 then yield_entry u pid p else answered u pid p (minus 38) in
+    let rest4 = if number == 18 then yield_entry u pid p else answered u pid p (minus 38) in
+    let rest3 = if number == 8 then sbrk_entry u pid p else rest4 in
     let rest2 = if number == 7 then getpid_entry u pid p else rest3 in
     let rest1 = if number == 2 then write_entry u pid p else rest2 in
     if_alike u (exit_entry u pid p) rest1 (number == 1) (ended_alike u pid p (argument p 0 % 256))
     (if_alike u (write_entry u pid p) rest2 (number == 2) (through_alike u pid p (description_of u p (argument p 0)))
     (if_alike u (getpid_entry u pid p) rest3 (number == 7) (answered_alike u pid p pid)
-    (if_alike u (yield_entry u pid p) (answered u pid p (minus 38)) (number == 18) (yield_alike u pid p) (answered_alike u pid p (minus 38)))))
+    (if_alike u (sbrk_entry u pid p) rest4 (number == 8) (sbrk_alike u pid p)
+    (if_alike u (yield_entry u pid p) (answered u pid p (minus 38)) (number == 18) (yield_alike u pid p) (answered_alike u pid p (minus 38))))))
 
 -- a state counts a trap more, which may have put bytes on the tapes
 pub record Counts (t : Trap) (u w : Unix) : Type 0 where

@@ -1,10 +1,11 @@
--- Lemmas on turns, their traps and what these count, on records of any kind, on lists that are laid one behind the other, on bytes in
--- words, on how the records with lists are written, on how records are read, on pages that have frames, on the ranges of an intent, and on what
--- these and single stores make of the records of an area.
+-- Lemmas on turns, their traps and what these count, on least numbers, on sums, on records of any kind, on lists that are
+-- laid one behind the other, on bytes in words, on how the records with lists are written, on how records are read, on
+-- pages that have frames, on the ranges of an intent, and on what these and single stores make of the records of an area.
 pub mod Turning
 pub mod Counting
 pub mod Surviving
 pub mod Least
+pub mod Sums
 pub mod Records
 pub mod Reading
 pub mod Living

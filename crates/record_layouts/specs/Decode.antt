@@ -160,6 +160,7 @@ unix_of r words tapes context steps traps =
       ended = ended_of r processes;
       descriptions = in_use processes (λ number. description_by (r.descs number));
       files = λ _. None;
+      room = r.map.user_frames;
       terminals = λ tty. terminal_by (tapes tty) (r.terms tty);
       exits = λ pid. status_by (r.exits pid);
       next_pid = next_by r.head;

@@ -1,6 +1,6 @@
 -- What a call of a process asks for, by its records: which records are set as the trap ends, and which of its bytes are
 -- written on a terminal before.
-use Rattle.std.specs.Prelude.{ℕ, ◌+◌, ◌-◌, ◌/◌, ◌%◌, Bool, true, false, nat_lt, not, ◌==◌, if◌then◌else◌, List, [], ◌∷◌, slice_get, Option, Some, None}
+use Rattle.std.specs.Prelude.{ℕ, ◌+◌, ◌-◌, ◌*◌, ◌/◌, ◌%◌, Bool, nat_lt, not, ◌==◌, ◌||◌, if◌then◌else◌, List, [], ◌∷◌, slice_get, Option, Some, None}
 use Rattle.ow_base.specs.Words.{wrapped, minus}
 use Rattle.ow_base.specs.UserStep.{register, with_register}
 use Rattle.ow_base.specs.Sv32.{WordMap}
@@ -12,19 +12,23 @@ use Rattle.record_layouts.specs.declared.desc.DescRec.{DescRec}
 use Rattle.record_layouts.specs.declared.patch.PatchItem.{PatchItem}
 use Rattle.record_layouts.specs.Unix.Calls.{tty_piece}
 use Rattle.record_layouts.specs.Held.{Records}
-use Rattle.record_layouts.specs.Pages.{pages_of}
+use Rattle.record_layouts.specs.Pages.{heap_pages, pages_of}
+use Rattle.frame_table.specs.Free.{free_before}
 use Rattle.syscalls.specs.declared.caller.Caller.{Caller}
 use Rattle.process_table.specs.Patches.{head_item, process_item, ended_items, saved_process}
 
--- records are set at once, or after bytes of the process, so many from an address on, are written on a terminal
+-- records are set at once, or after bytes of the process, so many from an address on, are written on a terminal, or after
+-- so many pages are prepared behind its heap
 pub data Planned : Type 0 where
   PlanOnce : (items : List PatchItem) → Planned
   PlanWrite : (tty from len : ℕ) (items : List PatchItem) → Planned
+  PlanGrow : (count : ℕ) (items : List PatchItem) → Planned
 
 -- the records that are set
 abbrev pub items_in : Planned → List PatchItem
 items_in (PlanOnce items) = items
 items_in (PlanWrite tty from len items) = items
+items_in (PlanGrow count items) = items
 
 -- the argument registers of a process
 abbrev pub argument_of : ProcRec → (index : ℕ) → ℕ
@@ -109,12 +113,33 @@ planned_write_on pages c (Some description) =
 unfoldable pub planned_write : Records → Pages → Caller → Planned
 planned_write r pages c = planned_write_on pages c (named r c.process.descs (argument_of c.process 0))
 
--- the call with this number: exit, write, getpid, yield; a number that is no call answers ENOSYS 38
+-- the address of the break
+abbrev pub break_of : ProcRec → ℕ
+break_of process = 4096 * (16 + process.code_pages + process.data_pages) + process.brk
+
+-- the process behind its call, with so many bytes of heap more
+abbrev pub grown_process : ProcRec → (bytes : ℕ) → ProcRec
+grown_process process bytes = record (answered_process process (break_of process)) { brk = process.brk + bytes }
+
+-- the pages that so many bytes of heap more take
+abbrev pub pages_more : ProcRec → (bytes : ℕ) → ℕ
+pages_more process bytes = (process.brk + bytes + 4095) / 4096 - heap_pages process
+
+-- sbrk(n): ENOMEM 12 where the break would pass 0x00400000 or fewer user frames are free than the pages take
+unfoldable pub planned_sbrk : Records → Caller → Planned
+planned_sbrk r c =
+    let bytes = argument_of c.process 0 in
+    if nat_lt 0x400000 (break_of c.process + bytes) || nat_lt (free_before r r.map.user_frames) (pages_more c.process bytes)
+    then planned_answer c (minus 12)
+    else PlanGrow (pages_more c.process bytes) (items_of c (grown_process c.process bytes))
+
+-- the call with this number: exit, write, getpid, sbrk, yield; a number that is no call answers ENOSYS 38
 unfoldable pub planned_number : Records → Pages → Caller → (number : ℕ) → Planned
 planned_number r pages c number =
     if number == 1 then PlanOnce (ended_items c.head c.slot c.process (argument_of c.process 0 % 256) c.trap) else
     if number == 2 then planned_write r pages c else
     if number == 7 then planned_answer c c.process.pid else
+    if number == 8 then planned_sbrk r c else
     if number == 18 then PlanOnce (items_of c (yielded_process c.process)) else
     planned_answer c (minus 38)
 

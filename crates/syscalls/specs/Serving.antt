@@ -1,21 +1,21 @@
 -- The service that a call asks for, and when it may be asked.
-use Rattle.std.specs.Prelude.{◌≡◌, ℕ, ◌<◌, ◌≤◌, true, List, Option, Some, None, IfSome}
+use Rattle.std.specs.Prelude.{◌≡◌, ℕ, ◌<◌, ◌≤◌, true, Option, Some, None, IfSome}
 use Rattle.ow_base.specs.Sv32.{WordMap}
 use Rattle.ow_base.specs.Pages.{is_readable}
 use Rattle.ow_base.specs.declared.machine.Bank.{Bank}
 use Rattle.record_layouts.specs.declared.proc.ProcRec.{ProcRec}
-use Rattle.record_layouts.specs.declared.patch.PatchItem.{PatchItem}
 use Rattle.record_layouts.specs.Held.{Records, AreComplete}
 use Rattle.record_layouts.specs.Head.{FitsHead}
 use Rattle.record_layouts.specs.Proc.{FitsProc}
-use Rattle.record_layouts.specs.Pages.{is_live, is_mapped, pages_of}
+use Rattle.record_layouts.specs.Pages.{is_live, is_mapped}
 use Rattle.record_layouts.specs.Patch.{IsPatch}
 use Rattle.record_layouts.specs.Sound.{IsInCall}
 use Rattle.process_table.specs.Patches.{bank_of, saved_process}
+use Rattle.address_space.specs.Spaces.{CanGrow}
 use Rattle.syscalls.specs.declared.caller.Caller.{Caller}
 use Rattle.syscalls.specs.declared.service.Service.{Service}
 use Rattle.syscalls.specs.declared.service.Service.TheVariants as service
-use Rattle.syscalls.specs.Planned.{Planned, PlanOnce, PlanWrite, pages_in, planned_call, planned_piece}
+use Rattle.syscalls.specs.Planned.{Planned, PlanGrow, PlanOnce, PlanWrite, pages_in, planned_call, planned_piece}
 
 -- a caller can be served: its records can be spelled, it has a slot and goes on
 pub record IsCaller (c : Caller) : Type 0 where
@@ -28,6 +28,7 @@ pub record IsCaller (c : Caller) : Type 0 where
 abbrev pub plan_of : Service → Planned
 plan_of (service.Once patch) = PlanOnce patch.items.items
 plan_of (service.TtyWrite tty from len patch) = PlanWrite tty from len patch.items.items
+plan_of (service.Grow count patch) = PlanGrow count patch.items.items
 
 -- the service of the process in a slot is the one that its call asks for
 abbrev pub IsCallOf : Records → WordMap → (slot trap : ℕ) → Bank → Service → Type 0
@@ -49,6 +50,7 @@ pub record IsWritable (r : Records) (words : WordMap) (slot tty from len : ℕ) 
 abbrev pub IsDoable : Records → WordMap → (slot : ℕ) → Service → Type 0
 IsDoable r words slot (service.Once patch) = IsPatch patch.items.items
 IsDoable r words slot (service.TtyWrite tty from len patch) = IsPatch patch.items.items × IsWritable r words slot tty from len
+IsDoable r words slot (service.Grow count patch) = IsPatch patch.items.items × IfSome (r.procs slot) (CanGrow r slot count)
 
 -- a call in a slot can be served: every record decodes, and each page has a frame
 pub record CanCall (r : Records) (slot : ℕ) : Type 0 where

@@ -1,18 +1,21 @@
 //! A process in its trap, and what its record becomes there.
 
-ghost use Rattle.std.specs.Prelude.{◌≡◌, ◌<◌, ◌≤◌, ◌↔◌, IsTrue};
+ghost use Rattle.std.specs.Prelude.{◌≡◌, ◌+◌, ◌<◌, ◌≤◌, ◌↔◌, IsTrue};
 ghost use Rattle.ow_base.specs.Words.{minus};
 ghost use Rattle.record_layouts.specs.Head.{FitsHead};
 ghost use Rattle.record_layouts.specs.Patch.{IsPatch};
 ghost use Rattle.record_layouts.specs.Proc.{FitsProc};
 ghost use Rattle.syscalls.specs.Serving.{IsCaller};
-ghost use Rattle.syscalls.specs.Planned.{answered_process, argument_of, staying_process, stopped_answer, items_of, written_process, yielded_process};
+ghost use Rattle.syscalls.specs.Planned.{answered_process, argument_of, break_of, grown_process, pages_more, staying_process, stopped_answer, items_of, written_process, yielded_process};
 
 use ow_base::Errno;
-use record_layouts::{AnyRec, HeadRec, Patch, ProcRec, RecordId};
+use record_layouts::{AnyRec, CODE_PAGE, HeadRec, Patch, ProcRec, RecordId};
 
 // The register a0.
 const ARGUMENTS: u32 = 10;
+
+// The bytes of a page.
+const PAGE: u32 = 4096;
 
 // A process outside a call, and one in a call.
 const OUTSIDE: u32 = 1;
@@ -113,6 +116,37 @@ impl Caller {
         ensures patch { IsPatch result.items.items }
     {
         self.answers(0u32.wrapping_sub(error.0))
+    }
+
+    // The address of the break.
+    pub(crate) fn break_address(&self) -> u32
+        requires { IsCaller self.now }
+        ensures { result ≡ break_of self.now.process }
+    {
+        (CODE_PAGE + self.process.code_pages + self.process.data_pages) * PAGE + self.process.brk
+    }
+
+    // The pages that so many bytes of heap more take.
+    pub(crate) fn pages_more(&self, bytes: u32) -> u32
+        requires caller { IsCaller self.now }
+        requires room { break_of self.now.process + bytes ≤ 0x400000 }
+        ensures { result ≡ pages_more self.now.process bytes }
+    {
+        (self.process.brk + bytes).div_ceil(PAGE) - self.process.brk.div_ceil(PAGE)
+    }
+
+    // The heap has so many bytes more, and the call answers where the break was.
+    pub(crate) fn has_grown(&self, bytes: u32) -> Patch
+        requires caller { IsCaller self.now }
+        requires room { break_of self.now.process + bytes ≤ 0x400000 }
+        ensures items { result.items.items ≡ items_of self.now (grown_process self.now.process bytes) }
+        ensures patch { IsPatch result.items.items }
+    {
+        let process = ProcRec {
+            brk: self.process.brk + bytes,
+            ..self.process
+        };
+        Caller { process, ..*self }.answers(self.break_address())
     }
 
     // The process stays in its write, of which so many bytes are done.

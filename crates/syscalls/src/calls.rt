@@ -6,12 +6,13 @@ ghost use Rattle.record_layouts.specs.Desc.{FitsDesc};
 ghost use Rattle.record_layouts.specs.Patch.{IsPatch};
 ghost use Rattle.process_table.specs.Patches.{ended_items};
 ghost use Rattle.process_table.specs.Slots.{is_live_one};
-ghost use Rattle.syscalls.specs.Planned.{argument_of, named, pages_in, planned_number, planned_on, planned_tty, planned_write};
+ghost use Rattle.syscalls.specs.Planned.{argument_of, named, pages_in, planned_number, planned_on, planned_sbrk, planned_tty, planned_write};
 ghost use Rattle.syscalls.specs.Serving.{CanCall, IsCallOf, IsCallerIn, IsDoable, IsInside, IsOutside, IsPieceOf, plan_of};
 
 use crate::caller::{Caller, WRITE};
 use crate::service::Service;
 use address_space::can_read;
+use frame_table::free_frames;
 use ow_base::{Bank, Efault, Errno, Now};
 use process_table::end_process;
 use record_layouts::{DescRec, Patch, ProcRec, RecordView};
@@ -21,19 +22,26 @@ const EXIT: u32 = 1;
 
 const GETPID: u32 = 7;
 
+const SBRK: u32 = 8;
+
 const YIELD: u32 = 18;
 
 const NUMBER: u32 = 17;
 
-// The errors: no such descriptor or no right to write, an address that cannot be read, a count that is too large, and
-// a number that is no call.
+// The errors: no such descriptor or no right to write, an address that cannot be read, a count that is too large, no
+// room for a heap, and a number that is no call.
 const EBADF: Errno = Errno(9);
 
 const EFAULT: Errno = Errno(14);
 
 const EINVAL: Errno = Errno(22);
 
+const ENOMEM: Errno = Errno(12);
+
 const ENOSYS: Errno = Errno(38);
+
+// The address at which a heap ends at the latest.
+const HEAP_END: u32 = 0x0040_0000;
 
 // The most bytes that a write may ask for, and the most that one piece writes on a terminal.
 const MOST_BYTES: u32 = 0x7fff_ffff;
@@ -169,10 +177,43 @@ fn exit<V: RecordView>(view: &V, caller: &Caller) -> Patch
     end_process(view, caller.slot, caller.argument(0) % 256, caller.trap)
 }
 
+// The call sbrk: pages are prepared for what the heap grows by.
+#[tactic(auto, unfolding(crate::specs::Planned::planned_sbrk))]
+fn sbrk<V: RecordView>(view: &V, caller: &Caller, user_frames: u32) -> Service
+    requires caller { IsCallerIn (V.records view.now) caller.now }
+    requires frames { user_frames ≡ (V.records view.now).map.user_frames }
+    requires few { user_frames ≤ 384 }
+    ensures plan { plan_of result ≡ planned_sbrk (V.records view.now) caller.now }
+    ensures doable { IsDoable (V.records view.now) (V.words view.now) caller.now.slot result }
+{
+    let bytes = caller.argument(0);
+    let fits = match caller.break_address().checked_add(bytes) {
+        Some(end) => end <= HEAP_END,
+        None => false,
+    };
+    if !fits {
+        return Service::Once {
+            patch: caller.fails(ENOMEM),
+        };
+    }
+    let count = caller.pages_more(bytes);
+    if count > free_frames(view, user_frames) {
+        return Service::Once {
+            patch: caller.fails(ENOMEM),
+        };
+    }
+    Service::Grow {
+        count,
+        patch: caller.has_grown(bytes),
+    }
+}
+
 // The call with this number.
 #[tactic(auto, unfolding(crate::specs::Planned::planned_number))]
-fn serve<V: RecordView>(view: &V, caller: &Caller, number: u32) -> Service
-    requires { IsCallerIn (V.records view.now) caller.now }
+fn serve<V: RecordView>(view: &V, caller: &Caller, number: u32, user_frames: u32) -> Service
+    requires caller { IsCallerIn (V.records view.now) caller.now }
+    requires frames { user_frames ≡ (V.records view.now).map.user_frames }
+    requires few { user_frames ≤ 384 }
     ensures plan { plan_of result ≡ planned_number (V.records view.now) (pages_in (V.records view.now) (V.words view.now) caller.now.slot) caller.now number }
     ensures doable { IsDoable (V.records view.now) (V.words view.now) caller.now.slot result }
 {
@@ -180,6 +221,7 @@ fn serve<V: RecordView>(view: &V, caller: &Caller, number: u32) -> Service
         EXIT => exit(view, caller),
         WRITE => return write(view, caller),
         GETPID => caller.answers(caller.process.pid),
+        SBRK => return sbrk(view, caller, user_frames),
         YIELD => caller.goes_on(),
         _ => caller.fails(ENOSYS),
     };
@@ -189,17 +231,22 @@ fn serve<V: RecordView>(view: &V, caller: &Caller, number: u32) -> Service
 /// What the call of the process in the slot asks for, in the trap `now.trap`.
 ///
 /// The process is live and outside a call, and `bank` is what the processor has of it: the number of the call is in a7
-/// and its arguments are in a0, a1 and a2. The calls are exit (1), write (2), getpid (7) and yield (18); every other
-/// number answers ENOSYS. A write answers EBADF where the descriptor stands for nothing that is open to write, then
-/// EINVAL where the count is above 0x7fffffff, then 0 where it is 0; else it makes its first piece, of at most 16
-/// bytes, which answers EFAULT where a byte of it cannot be read. Errors change nothing else. Writes on files are not
-/// built: the trap of one is served, and the process is left before its call.
+/// and its arguments are in a0, a1 and a2. The calls are exit (1), write (2), getpid (7), sbrk (8) and yield (18);
+/// every other number answers ENOSYS. A write answers EBADF where the descriptor stands for nothing that is open to
+/// write, then EINVAL where the count is above 0x7fffffff, then 0 where it is 0; else it makes its first piece, of at
+/// most 16 bytes, which answers EFAULT where a byte of it cannot be read. An sbrk answers where the break was, and
+/// ENOMEM where the break would pass 0x00400000 or fewer user frames are free than the heap takes pages more. Errors
+/// change nothing else. Writes on files are not built: the trap of one is served, and the process is left before its
+/// call.
 ///
-/// Every record decodes, and each page of the process has a frame.
+/// Every record decodes, each page of the process has a frame, and `now.user_frames` says how many user frames there
+/// are.
 #[tactic(auto, unfolding(crate::specs::Planned::planned_call))]
 pub fn enter_call<V: RecordView>(view: &V, slot: u32, bank: &Bank, now: &Now) -> Service
     requires can { CanCall (V.records view.now) slot }
     requires outside { IsOutside ((V.records view.now).procs slot) }
+    requires frames { now.now.user_frames ≡ (V.records view.now).map.user_frames }
+    requires few { now.now.user_frames ≤ 384 }
     ensures call { IsCallOf (V.records view.now) (V.words view.now) slot now.now.trap bank.now result }
     ensures doable { IsDoable (V.records view.now) (V.words view.now) slot result }
 {
@@ -214,7 +261,7 @@ pub fn enter_call<V: RecordView>(view: &V, slot: u32, bank: &Bank, now: &Now) ->
         head: view.head().unwrap(),
         trap: now.trap,
     };
-    serve(view, &caller, bank.regs.get(NUMBER))
+    serve(view, &caller, bank.regs.get(NUMBER), now.user_frames)
 }
 
 /// A further piece of the call that the live process in the slot is in, in the trap `now.trap`.

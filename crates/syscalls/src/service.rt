@@ -17,4 +17,10 @@ pub enum Service {
         len: u32,
         patch: Patch,
     },
+    /// So many pages of zeros are prepared behind the heap of the process, and then the patch is committed, which counts
+    /// them.
+    Grow {
+        count: u32,
+        patch: Patch,
+    },
 }

@@ -168,6 +168,7 @@ abort v x =
       ended = λ pid. child_after (x.gone pid) processes (v.ended pid);
       descriptions = in_use processes v.descriptions;
       files = x.files;
+      room = v.room;
       terminals = λ tty. reset_to (v.terminals tty) (x.ttys tty);
       exits = λ pid. exit_after v x pid (v.processes pid);
       next_pid = v.next_pid;

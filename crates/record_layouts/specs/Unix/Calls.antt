@@ -1,8 +1,9 @@
 -- The system calls: the number is in a7, the arguments are in a0, a1 and a2, and the answer comes in a0.
-use Rattle.std.specs.Prelude.{ℕ, ◌+◌, ◌-◌, ◌%◌, Bool, true, false, nat_lt, ◌==◌, not, if◌then◌else◌, min, List, ◌++◌, slice_get, Option, Some, None, option_and_then, is_some}
+use Rattle.std.specs.Prelude.{ℕ, ◌+◌, ◌-◌, ◌%◌, Bool, true, false, nat_lt, ◌==◌, ◌||◌, not, if◌then◌else◌, min, List, ◌++◌, slice_get, Option, Some, None, option_and_then, is_some}
 use Rattle.ow_base.specs.Words.{wrapped, minus, updated}
 use Rattle.ow_base.specs.UserStep.{register, with_register}
 use Rattle.ow_base.specs.Pages.{is_readable, bytes_at}
+use Rattle.record_layouts.specs.Unix.Spaces.{break_of, heap_end, heap_pages, pages_of_all, with_zero_pages}
 use Rattle.record_layouts.specs.Unix.State.{Unix, Process, CallState, Out, In, AtKernel, EndedChild, Object, OnFile, OnTty, Description, Terminal, in_use}
 
 -- the argument registers, and the register of the call's number
@@ -115,12 +116,22 @@ getpid_entry u pid p = answered u pid p pid
 unfoldable pub yield_entry : Unix → (pid : ℕ) → Process → Unix
 yield_entry u pid p = with_process u pid (record p { call = Out; bank = record { pc = wrapped (p.bank.pc + 4); regs = p.bank.regs } })
 
+-- sbrk(n): ENOMEM 12 where the break would pass 0x00400000 or there is no room for the new pages; else the old break, and
+-- the new pages are zero
+unfoldable pub sbrk_entry : Unix → (pid : ℕ) → Process → Unix
+sbrk_entry u pid p =
+    let new = heap_pages (p.brk + argument p 0) - heap_pages p.brk in
+    if nat_lt 0x400000 (break_of p + argument p 0) || nat_lt u.room (pages_of_all u.processes + new)
+    then answered u pid p (minus 12)
+    else answered u pid (record p { brk = p.brk + argument p 0; pages = with_zero_pages p.pages (heap_end p.pages) new }) (break_of p)
+
 -- the call with this number; a number that is no call answers ENOSYS 38
 unfoldable pub called : Unix → (pid : ℕ) → Process → (number : ℕ) → Unix
 called u pid p number =
     if number == 1 then exit_entry u pid p else
     if number == 2 then write_entry u pid p else
     if number == 7 then getpid_entry u pid p else
+    if number == 8 then sbrk_entry u pid p else
     if number == 18 then yield_entry u pid p else
     answered u pid p (minus 38)
 

@@ -1,5 +1,6 @@
 -- Which process is next.
 use Rattle.std.specs.Prelude.{ℕ, zero, suc, ◌+◌, ◌-◌, Bool, true, false, nat_lt, not, ◌==◌, ◌||◌, if◌then◌else◌, Option, Some, None, is_some}
+unfoldable pub use Rattle.record_layouts.specs.Unix.State.{least_from}
 use Rattle.record_layouts.specs.Unix.State.{most_pids, Unix, Process, EndedChild, Description, Object, OnFile, OnTty, CallState, Out, In, Position, AtKernel, AtUser, AtPanic}
 use Rattle.record_layouts.specs.Unix.Calls.{argument, description_of}
 
@@ -11,11 +12,6 @@ pub record Keys : Type 0 where
 -- nothing is typed
 abbrev pub no_keys : Keys
 no_keys = record { arrived = λ _. 0; typed = λ _. 0 }
-
--- the least number that passes, of so many from the first one on
-unfoldable pub least_from : (test : ℕ → Bool) → (first count : ℕ) → Option ℕ
-least_from test first zero = None
-least_from test first (suc n) = if test first then Some first else least_from test (first + 1) n
 
 abbrev pub or_else : Option ℕ → Option ℕ → Option ℕ
 or_else (Some n) other = Some n

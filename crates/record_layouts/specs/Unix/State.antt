@@ -14,6 +14,20 @@ use Rattle.ow_base.specs.declared.worlds.Start.{Start as Started}
 abbrev pub most_pids : ℕ
 most_pids = 256
 
+-- the least number that passes, of so many from the first one on
+unfoldable pub least_from : (test : ℕ → Bool) → (first count : ℕ) → Option ℕ
+least_from test first zero = None
+least_from test first (suc n) = if test first then Some first else least_from test (first + 1) n
+
+-- the sum over so many numbers from the first one on
+unfoldable pub sum_from : (value : ℕ → ℕ) → (first count : ℕ) → ℕ
+sum_from value first zero = 0
+sum_from value first (suc n) = value first + sum_from value (first + 1) n
+
+-- how many of so many numbers from the first one on pass
+unfoldable pub count_from : (test : ℕ → Bool) → (first count : ℕ) → ℕ
+count_from test first count = sum_from (λ n. if test n then 1 else 0) first count
+
 -- a process is outside a call, or in one of this number, of which so many bytes are done
 pub data CallState : Type 0 where
   Out : CallState
@@ -77,6 +91,8 @@ pub record Unix : Type 0 where
   pub ended : ℕ → Option EndedChild
   pub descriptions : ℕ → Option Description
   pub files : ℕ → Option File
+  -- how many pages the machine has room for
+  pub room : ℕ
   pub terminals : ℕ → Terminal
   -- status words by pid
   pub exits : ℕ → Option ℕ
@@ -179,6 +195,7 @@ start_of load = record {
   ended = λ _. None;
   descriptions = started_description load;
   files = λ _. None;
+  room = load.shape.user_frames;
   terminals = λ _. silent_terminal;
   exits = λ _. None;
   next_pid = length load.starts + 1;
