@@ -29,8 +29,18 @@ enum After {
 
 use After::{Behind, Ended, Inside, Wrong};
 
-// The bytes to be written on terminal 1, by their address and number, and what becomes of the process.
-type Asked = (Option<(u32, u32)>, After);
+// What is to be done before the patch: bytes go to terminal 1, by their address and number, or so many pages are prepared.
+#[derive(Clone, Copy, Debug, PartialEq, Eq)]
+enum Work {
+    Nothing,
+    Bytes(u32, u32),
+    Pages(u32),
+}
+
+use Work::{Bytes, Nothing, Pages};
+
+// What is to be done, and what becomes of the process.
+type Asked = (Work, After);
 
 fn regs_with(number: u32, arguments: [u32; 3]) -> Regs
     ensures descriptor { register result 10 ≡ slice_index arguments 0 }
@@ -72,16 +82,21 @@ fn becomes(patch: &Patch, pc: u32) -> After {
 
 fn asked(service: &Service, pc: u32) -> Asked {
     match service {
-        Service::Once { patch } => (None, becomes(patch, pc)),
+        Service::Once { patch } => (Nothing, becomes(patch, pc)),
         Service::TtyWrite {
             tty,
             from,
             len,
             patch,
         } => {
-            let range = if *tty == 1 { Some((*from, *len)) } else { None };
-            (range, becomes(patch, pc))
+            let work = if *tty == 1 {
+                Bytes(*from, *len)
+            } else {
+                Nothing
+            };
+            (work, becomes(patch, pc))
         }
+        Service::Grow { count, patch } => (Pages(*count), becomes(patch, pc)),
     }
 }
 
@@ -121,63 +136,72 @@ fn continued(call: u32, address: u32, count: u32, done: u32) -> Option<Asked> {
 
 const EBADF: After = Behind(0xffff_fff7);
 
+const ENOMEM: After = Behind(0xffff_fff4);
+
 const EFAULT: After = Behind(0xffff_fff2);
 
 const EINVAL: After = Behind(0xffff_ffea);
 
 const ENOSYS: After = Behind(0xffff_ffda);
 
-// The number of the call, its arguments, and whether the descriptor only reads; the piece, and what becomes of the
-// process.
-const CALLS: [(u32, [u32; 3], bool, Option<(u32, u32)>, After); 20] = [
-    (2, [1, 0, 0], false, None, EBADF),
-    (2, [8, 0x10000, 3], false, None, EBADF),
-    (2, [0xffff_ffff, 0x10000, 3], false, None, EBADF),
-    (2, [0, 0x10000, 0x8000_0000], true, None, EBADF),
-    (2, [0, 0, 0x8000_0000], false, None, EINVAL),
-    (2, [0, 0, 0x7fff_ffff], false, None, EFAULT),
-    (2, [0, 0, 0], false, None, Behind(0)),
-    (2, [0, 0x10ff8, 9], false, None, EFAULT),
-    (2, [0, 0x7fff_fff8, 16], false, None, EFAULT),
-    (2, [0, 0xffff_ffff, 2], false, None, EFAULT),
-    (2, [0, 0x10ff8, 8], false, Some((0x10ff8, 8)), Behind(8)),
-    (2, [0, 0x10000, 16], false, Some((0x10000, 16)), Behind(16)),
+// The number of the call, its arguments, and whether the descriptor only reads; what is to be
+// done, and what becomes of the process.
+const CALLS: [(u32, [u32; 3], bool, Work, After); 26] = [
+    (2, [1, 0, 0], false, Nothing, EBADF),
+    (2, [8, 0x10000, 3], false, Nothing, EBADF),
+    (2, [0xffff_ffff, 0x10000, 3], false, Nothing, EBADF),
+    (2, [0, 0x10000, 0x8000_0000], true, Nothing, EBADF),
+    (2, [0, 0, 0x8000_0000], false, Nothing, EINVAL),
+    (2, [0, 0, 0x7fff_ffff], false, Nothing, EFAULT),
+    (2, [0, 0, 0], false, Nothing, Behind(0)),
+    (2, [0, 0x10ff8, 9], false, Nothing, EFAULT),
+    (2, [0, 0x7fff_fff8, 16], false, Nothing, EFAULT),
+    (2, [0, 0xffff_ffff, 2], false, Nothing, EFAULT),
+    (2, [0, 0x10ff8, 8], false, Bytes(0x10ff8, 8), Behind(8)),
+    (2, [0, 0x10000, 16], false, Bytes(0x10000, 16), Behind(16)),
     (
         2,
         [0, 0x10000, 17],
         false,
-        Some((0x10000, 16)),
+        Bytes(0x10000, 16),
         Inside { done: 16, a0: 0 },
     ),
     (
         2,
         [0, 0x7fff_fff0, 16],
         false,
-        Some((0x7fff_fff0, 16)),
+        Bytes(0x7fff_fff0, 16),
         Behind(16),
     ),
-    (1, [0x1ff, 0, 0], false, None, Ended(0xff)),
-    (1, [0x100, 0, 0], false, None, Ended(0)),
-    (7, [5, 0, 0], false, None, Behind(9)),
-    (18, [5, 0, 0], false, None, Behind(5)),
-    (3, [0, 0x10000, 3], false, None, ENOSYS),
-    (0xffff_ffff, [5, 0, 0], false, None, ENOSYS),
+    (1, [0x1ff, 0, 0], false, Nothing, Ended(0xff)),
+    (1, [0x100, 0, 0], false, Nothing, Ended(0)),
+    (7, [5, 0, 0], false, Nothing, Behind(9)),
+    (8, [0, 0, 0], false, Pages(0), Behind(0x11000)),
+    (8, [1, 0, 0], false, Pages(1), Behind(0x11000)),
+    // Of 16 frames its pages have five.
+    (8, [0xb000, 0, 0], false, Pages(11), Behind(0x11000)),
+    (8, [0xb001, 0, 0], false, Nothing, ENOMEM),
+    (8, [0x3e_f001, 0, 0], false, Nothing, ENOMEM),
+    (8, [0xffff_ffff, 0, 0], false, Nothing, ENOMEM),
+    (18, [5, 0, 0], false, Nothing, Behind(5)),
+    (3, [0, 0x10000, 3], false, Nothing, ENOSYS),
+    (0xffff_ffff, [5, 0, 0], false, Nothing, ENOSYS),
 ];
 
-// The call, an address, a count and the bytes done; the piece, and what becomes of the process.
-const PIECES: [([u32; 4], Option<(u32, u32)>, After); 7] = [
+// The call, an address, a count and the bytes done; what is to be done, and what becomes of the process.
+const PIECES: [([u32; 4], Work, After); 7] = [
     (
         [2, 0x10000, 40, 16],
-        Some((0x10010, 16)),
+        Bytes(0x10010, 16),
         Inside { done: 32, a0: 0 },
     ),
-    ([2, 0x10000, 40, 32], Some((0x10020, 8)), Behind(40)),
-    ([2, 0x10000, 48, 32], Some((0x10020, 16)), Behind(48)),
-    ([2, 0x10fe8, 100, 16], None, Behind(16)),
-    ([2, 0x11000, 40, 0], None, EFAULT),
-    ([2, 0xffff_fff0, 40, 16], None, Behind(16)),
+    ([2, 0x10000, 40, 32], Bytes(0x10020, 8), Behind(40)),
+    ([2, 0x10000, 48, 32], Bytes(0x10020, 16), Behind(48)),
+    ([2, 0x10fe8, 100, 16], Nothing, Behind(16)),
+    ([2, 0x11000, 40, 0], Nothing, EFAULT),
+    ([2, 0xffff_fff0, 40, 16], Nothing, Behind(16)),
     // A read is left as it is.
-    ([3, 0x10000, 40, 0], None, Inside { done: 0, a0: 0 }),
+    ([3, 0x10000, 40, 0], Nothing, Inside { done: 0, a0: 0 }),
 ];
 
 #[test]
