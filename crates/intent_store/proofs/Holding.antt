@@ -1,9 +1,11 @@
 -- What a plant holds after stores.
-use Rattle.std.proofs.Common.{◌≡◌, ℕ, ◌+◌, ◌*◌, ◌<◌, ◌≤◌, Bool, true, false, if◌then◌else◌, List, [], ◌∷◌, All, Option, None, is_some, refl, ap, subst, ◌∙◌, ◌⊎◌, arith, inl, inr}
+use Rattle.std.proofs.Common.{◌≡◌, ℕ, ◌+◌, ◌*◌, ◌<◌, ◌≤◌, Bool, true, false, if◌then◌else◌, List, [], ◌∷◌, All, Option, Some, None, IfSome, is_some, refl, sym, ap, subst, ◌∙◌, ◌⊎◌, arith, inl, inr}
 use Rattle.std.proofs.lemmas.Bool.Decides.{nat_tests}
 use Rattle.ow_base.specs.declared.machine.AreaId.{AreaId}
 use Rattle.ow_base.specs.declared.machine.AreaId.TheVariants.{A, B}
-use Rattle.ow_plant.specs.State.{IsArmed, PlantState}
+use Rattle.ow_plant.specs.declared.refusal.Refusal.{Refusal}
+use Rattle.ow_plant.specs.declared.refusal.Refusal.TheVariants as refusal
+use Rattle.ow_plant.specs.State.{IsArmed, PlantState, is_refused}
 use Rattle.phys_memory.specs.Memory.{words_of}
 use Rattle.phys_memory.proofs.Words.{frame_count-sized}
 use Rattle.record_layouts.specs.declared.intent.Gate.TheVariants.{Closed}
@@ -18,7 +20,7 @@ use Rattle.record_layouts.specs.Held.{Held, Records, SectorsAre, beside, patched
 use Rattle.record_layouts.specs.Overlay.{HasArea, area_at}
 use Rattle.record_layouts.specs.Reading.{is_readable_gate, records_in, records_of}
 use Rattle.intent_store.specs.Blocks.{IsSeenAs, IsSeenSet, seen}
-use Rattle.intent_store.specs.Live.{IsStanding, base_of, gate_held, held_of, map_of, records_held, rest_of}
+use Rattle.intent_store.specs.Live.{IsBeforeEnd, IsStanding, base_of, gate_held, held_of, map_of, records_held, rest_of}
 use Rattle.intent_store.specs.OfMemory.{has_area}
 use Rattle.intent_store.proofs.Plants.{armed_by_rest}
 
@@ -93,6 +95,20 @@ standing_held old new stands e = standing_as old new stands (ap (λ (h : Held Pl
 
 pub standing_patched : (items : List PatchItem) (old new : PlantState) → IsStanding old → held_of new ≡ patched items (held_of old) → IsStanding new
 standing_patched items old new stands e = standing_set items old new stands (ap (λ (h : Held PlantState). h.rest) e) (ap (λ (h : Held PlantState). h.records) e)
+
+-- no end was refused where no refusal stands, or that of a store does
+pub able_before_end : (s : PlantState) → IsStanding s → s.refusal ≡ None → IsBeforeEnd s
+able_before_end s stands able = record { standing = stands; of_store = subst (λ (o : Option Refusal). IfSome o (λ one. one ≡ refusal.Store)) (sym able) tt }
+
+pub stopped_before_end : (s : PlantState) → IsStanding s → s.refusal ≡ Some refusal.Store → IsBeforeEnd s
+stopped_before_end s stands stopped = record { standing = stands; of_store = subst (λ (o : Option Refusal). IfSome o (λ one. one ≡ refusal.Store)) (sym stopped) refl }
+
+of_store_is : (o : Option Refusal) → IfSome o (λ one. one ≡ refusal.Store) → is_some o ≡ true → o ≡ Some refusal.Store
+of_store_is (Some one) store some = ap Some store
+of_store_is None store some = cc
+
+pub store_stopped : (s : PlantState) → IsBeforeEnd s → is_refused s ≡ true → s.refusal ≡ Some refusal.Store
+store_stopped s before refused = of_store_is s.refusal before.of_store refused
 
 pub shut_gate : (s : PlantState) (base : ℕ) → base ≡ (map_of s).area_base → area_at (words_of s.memory) base 16 ≡ 0 → gate_held s ≡ Closed
 shut_gate s base e shut = grind (arith, nat_tests, e, shut)

@@ -1,7 +1,8 @@
 -- What contracts see of the kernel that runs on a plant.
-use Rattle.std.specs.Prelude.{◌≡◌, ℕ, ◌+◌, Bool, true, not, ◌&&◌, List, [], length, replicate, is_some, None}
+use Rattle.std.specs.Prelude.{◌≡◌, ℕ, ◌+◌, Bool, true, not, ◌&&◌, List, [], length, replicate, is_some, None, IfSome}
 use Rattle.std.specs.List.{list_any}
 use Rattle.ow_plant.specs.Points.{is_in}
+use Rattle.ow_plant.specs.declared.refusal.Refusal.TheVariants as refusal
 use Rattle.ow_plant.specs.State.{IsArmed, PlantState, is_refused}
 use Rattle.phys_memory.specs.Memory.{MemoryParts, words_of}
 use Rattle.record_layouts.specs.declared.memory_map.MemoryMap.{MemoryMap}
@@ -43,6 +44,11 @@ may_refuse s = list_any (is_in s.traps) s.points
 pub record IsStanding (s : PlantState) : Type 0 where
   pub armed : IsArmed s
   pub decodes : is_some (records_held s).head ≡ true
+
+-- It stands, and the end of its trap was not refused: where a refusal stands a store was refused.
+pub record IsBeforeEnd (s : PlantState) : Type 0 where
+  pub standing : IsStanding s
+  pub of_store : IfSome s.refusal (λ one. one ≡ refusal.Store)
 
 -- what it holds; there is no disk yet
 abbrev pub held_of : PlantState → Held PlantState

@@ -194,7 +194,7 @@ impl Writer for Live<'_> {
     ghost use Rattle.record_layouts.specs.Held.{IsBeside, IsCommittable, IsDirect, IsDirectFrame, IsPartly, copied, patched, stored, zeroed};
     ghost use Rattle.record_layouts.specs.declared.intent.Gate.TheVariants.{Closed};
     ghost use Rattle.ow_plant.specs.State.{PlantState, is_refused};
-    ghost use Rattle.intent_store.specs.Live.{IsStanding, IsUnstored, gate_held, held_of, may_refuse, records_held, rest_of};
+    ghost use Rattle.intent_store.specs.Live.{IsBeforeEnd, IsStanding, IsUnstored, gate_held, held_of, may_refuse, records_held, rest_of};
     ghost use Rattle.intent_store.specs.OfMemory.{of_memory};
 
     ghost Rest = { PlantState };
@@ -209,11 +209,11 @@ impl Writer for Live<'_> {
 
     ghost may_refuse = { may_refuse };
 
-    ghost of_memory = { λ l stands. of_memory l.plant.now stands.armed };
+    ghost of_memory = { λ l stands. of_memory l.plant.now stands.standing.armed };
 
     ghost place = { λ l. l.plant.ghost_name };
 
-    ghost Stands = { λ l. IsStanding l.plant.now };
+    ghost Stands = { λ l. IsBeforeEnd l.plant.now };
 
     fn user_frames(&self) -> u32 {
         self.plant.now().user_frames
