@@ -1,5 +1,5 @@
 -- Live processes keep their descriptors where the records of a trap are set, so what these name stays on terminals.
-use Rattle.std.proofs.Common.{◌≡◌, ◌≢◌, ◌==◌, ℕ, ◌+◌, ◌-◌, ◌<◌, List, [], ◌∷◌, slice_index, Option, Some, IfSome, inl, inr, refl, sym, ap, subst, ◌∙◌}
+use Rattle.std.proofs.Common.{◌≡◌, ◌≢◌, ◌==◌, ℕ, ◌+◌, ◌-◌, List, [], ◌∷◌, slice_index, Option, Some, IfSome, inl, inr, refl, sym, ap, subst, ◌∙◌}
 use Rattle.std.proofs.lemmas.Bool.{cases_Bool}
 use Rattle.ow_base.specs.Words.{updated}
 use Rattle.ow_base.specs.declared.machine.Bank.{Bank}

@@ -12,7 +12,6 @@ use Rattle.record_layouts.specs.declared.exit.ExitRec.{ExitRec}
 use Rattle.record_layouts.specs.Held.{Records, AreComplete, AreValues, with_record}
 use Rattle.record_layouts.specs.Head.{FitsHead}
 use Rattle.record_layouts.specs.Proc.{FitsProc}
-use Rattle.record_layouts.specs.Exit.{FitsExit}
 use Rattle.record_layouts.specs.Spelling.{IsStatus}
 use Rattle.record_layouts.specs.Decode.{slot_by, next_by}
 use Rattle.record_layouts.specs.Sound.{IsIn, AreNumbered, AreSound, is_used}

@@ -53,6 +53,7 @@ module _ (r : Records) (handed : Option HandedOver) (counts : List ℕ) (words :
   pub read_as_revived : IsRevived r handed counts words (records_of map new) new
   unfolding records_of records_in
   read_as_revived = record {
+    frames = as_many;
     records = record_read;
     others = nothing_beyond map new;
     owners = λ frame less. its.owners frame (omega (arith, less, as_many));

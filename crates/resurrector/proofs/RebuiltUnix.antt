@@ -251,7 +251,7 @@ module _ (i : Image) (most broken : ℕ) (sound : IsSoundAtPanic i most broken) 
         (λ j q. process_is i most broken sound h steps traps counts next next_words is q j)
         ∙ description_same i most broken sound h steps traps counts next next_words is number) k;
     files = λ number. None;
-    room = r.map.user_frames;
+    room = is.frames k;
     terminals = λ tty. terminal_put i most broken sound h counts next next_words is tty k;
     exits = λ pid. exits_there pid k;
     next_pid = next_pid_same i most broken sound h counts next next_words is k;

@@ -14,9 +14,10 @@ use Rattle.kernel_builder.specs.Plan.{claim_by, entry_word}
 use Rattle.resurrector.specs.Revived.{revived_holder, revived_page, revived_plan, revived_record, word_by}
 use Rattle.resurrector.specs.Survivors.{survivor_in}
 
--- The new records are those of the plan, with the owners of the user frames and the tables of each slot whose process goes
--- on; and a user frame that holds a page has the words that this page had.
+-- There are as many user frames as before. The new records are those of the plan, with the owners of the user frames and the
+-- tables of each slot whose process goes on; and a user frame that holds a page has the words that this page had.
 pub record IsRevived (r : Records) (handed : Option HandedOver) (counts : List ℕ) (words : WordMap) (next : Records) (next_words : WordMap) : Type 0 where
+  pub frames : next.map.user_frames ≡ r.map.user_frames
   pub records : (one : RecordId) → IsRecordId one → at next one ≡ fitted one (revived_record r handed counts one)
   pub others : (one : RecordId) → is_id one ≡ false → at next one ≡ None
   pub owners : (frame : ℕ) → frame < r.map.user_frames → next.owners frame ≡ claim_by (revived_holder r handed frame)
