@@ -30,7 +30,7 @@ module _ (r : Records) (words others : WordMap) (room : r.map.area_base + 64 ≤
   unfolding frame_of
   byte_same slot process a = frame_same slot (a / 4096) (a % 4096) (entry_for r slot (a / 4096)) (region_of process (a / 4096))
 
-  pages_same : (slot : ℕ) (process : ProcRec) → pages_of r words slot process ≡ pages_of r others slot process
+  pub pages_same : (slot : ℕ) (process : ProcRec) → pages_of r words slot process ≡ pages_of r others slot process
   unfolding pages_of
   pages_same slot process = λ i. record { rights = region_of process; bytes = λ a. byte_same slot process a i }
 
