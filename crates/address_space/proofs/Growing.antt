@@ -166,7 +166,7 @@ frame_regions : (r : Records) (slot : ℕ) (process other : ProcRec) (page : ℕ
 unfolding frame_of
 frame_regions r slot process other page same = ap (frame_by r slot page (entry_for r slot page)) same
 
-linked_kept : (r new : Records) (slot table place : ℕ) → new.map ≡ r.map → new.table_words slot 0 place ≡ r.table_words slot 0 place
+pub linked_kept : (r new : Records) (slot table place : ℕ) → new.map ≡ r.map → new.table_words slot 0 place ≡ r.table_words slot 0 place
     → is_linked r slot table place ≡ true → is_linked new slot table place ≡ true
 linked_kept r new slot table place map word linked = rw (word, map) linked
 
@@ -200,10 +200,10 @@ module _ (process grown : ProcRec) (count : ℕ) (has : HasGrown process count g
   unfolding region_of
   region_grown page = grind (arith, nat_tests, live, has.live, has.code, has.values, has.heap)
 
-  region_new : (page : ℕ) → is_within (heap_end process) count page ≡ true → region_of grown page ≡ Some Values
+  pub region_new : (page : ℕ) → is_within (heap_end process) count page ≡ true → region_of grown page ≡ Some Values
   region_new page within = region_grown page ∙ rw within refl
 
-  region_old : (page : ℕ) → is_within (heap_end process) count page ≡ false → region_of grown page ≡ region_of process page
+  pub region_old : (page : ℕ) → is_within (heap_end process) count page ≡ false → region_of grown page ≡ region_of process page
   region_old page out = region_grown page ∙ rw out refl
 
 module _ {Rest : Type 0} (h new : Held Rest) (slot done from : ℕ) (process : ProcRec) (at : IsIn h.records slot process) (fits : FitsProc process)

@@ -1,8 +1,10 @@
--- Records in which a live process becomes another with the same pid, parent, pages and descriptors are sound again.
+-- Records in which a live process becomes another with the same pid, parent and descriptors are sound again, where its
+-- pages are the same, or where all pages have frames and clean tables.
 use Rattle.std.proofs.Common.{◌≡◌, ◌≢◌, ◌⊎◌, ◌==◌, ℕ, ◌+◌, ◌-◌, ◌*◌, ◌<◌, ◌≤◌, Bool, true, false, nat_lt, List, slice_index, Option, Some, None, IfSome, is_some, inl, inr, refl, sym, ap, subst, ◌∙◌, arith}
 use Rattle.std.proofs.lemmas.Bool.Decides.{nat_tests}
 use Rattle.std.proofs.lemmas.Grind.{common_steps}
 use Rattle.ow_base.specs.Words.{updated}
+use Rattle.record_layouts.specs.declared.places.RecordId.{RecordId}
 use Rattle.record_layouts.specs.declared.places.RecordId.TheVariants as id
 use Rattle.record_layouts.specs.declared.patch.AnyRec.TheVariants as any
 use Rattle.record_layouts.proofs.At.{complete_with, values_with}
@@ -11,7 +13,8 @@ use Rattle.record_layouts.specs.declared.proc.ProcRec.{ProcRec}
 use Rattle.record_layouts.specs.declared.sig.SigRec.{SigRec}
 use Rattle.record_layouts.specs.declared.desc.DescRec.{DescRec}
 use Rattle.record_layouts.specs.declared.exit.ExitRec.{ExitRec}
-use Rattle.record_layouts.specs.Held.{Records, with_record}
+use Rattle.record_layouts.specs.At.{Fits, at}
+use Rattle.record_layouts.specs.Held.{AreComplete, AreValues, Records, with_record}
 use Rattle.record_layouts.specs.Head.{FitsHead}
 use Rattle.record_layouts.specs.Pages.{is_live, is_mapped, region_of, high_place}
 use Rattle.record_layouts.specs.Proc.{FitsProc}
@@ -23,22 +26,40 @@ use Rattle.process_table.proofs.EndedSound.{served_fits, where_held}
 use Rattle.process_table.proofs.Kept.{set_here, set_other, same_or_not}
 use Rattle.process_table.proofs.Regions.{SameRegions, mapped_same, mapped_stays, region_same}
 use Rattle.process_table.proofs.Seats.{one_process}
-use Rattle.syscalls.proofs.Becoming.{IsAfter}
+use Rattle.syscalls.proofs.Becoming.{IsAfter, IsNext, next_of, prepared}
 
 -- a live process has not ended
 not_over : (process : ProcRec) → is_live process ≡ true → process.state ≡ 3 → ⊥
 not_over process live over = absurd (grind (arith, nat_tests, live, over))
 
+-- owners of frames and words of tables are no records that an id names
+same_at : (r : Records) (owners : ℕ → ℕ) (tables : (slot table word : ℕ) → ℕ) (one : RecordId) → at (prepared r owners tables) one ≡ at r one
+same_at r owners tables id.Head = refl
+same_at r owners tables (id.Proc slot) = refl
+same_at r owners tables (id.Sig slot) = refl
+same_at r owners tables (id.Desc index) = refl
+same_at r owners tables (id.File index) = refl
+same_at r owners tables (id.Cache index) = refl
+same_at r owners tables (id.Term tty) = refl
+same_at r owners tables (id.Row index) = refl
+same_at r owners tables (id.Exit pid) = refl
+
+complete_too : (r : Records) (owners : ℕ → ℕ) (tables : (slot table word : ℕ) → ℕ) → AreComplete r → AreComplete (prepared r owners tables)
+complete_too r owners tables complete one there = ap is_some (same_at r owners tables one) ∙ complete one there
+
+values_too : (r : Records) (owners : ℕ → ℕ) (tables : (slot table word : ℕ) → ℕ) → AreValues r → AreValues (prepared r owners tables)
+values_too r owners tables values one = subst (λ held. IfSome held (Fits one)) (sym (same_at r owners tables one)) (values one)
+
 places_same : (one other : ProcRec) (table word : ℕ) → SameRegions one other → is_table_place one table word ≡ is_table_place other table word
 places_same one other table word same = rw (region_same one other same word, region_same one other same (1024 * high_place + word)) refl
 
 module _ (r : Records) (head : HeadRec) (slot : ℕ) (process after : ProcRec) (trap : ℕ) (sound : AreSound r) (is_head : r.head ≡ Some head) (is : IsIn r slot process)
-    (next : IsAfter process after) (fits : FitsProc after) (call : after.state ≡ 2 → IsInCall r after) where
+    (next : IsNext process after) (fits : FitsProc after) (call : after.state ≡ 2 → IsInCall r after) (owners : ℕ → ℕ) (tables : (slot table word : ℕ) → ℕ) where
   abbrev now : Records
-  now = changed_records r head slot process after r.sigs trap
+  now = changed_records (prepared r owners tables) head slot process after r.sigs trap
 
   here_now : IsIn now slot after
-  here_now = record { within = is.within; there = set_here r.procs slot (Some after); live = next.regions.live }
+  here_now = record { within = is.within; there = set_here r.procs slot (Some after); live = next.live }
 
   -- a process that is live is this one, or was live before in another slot
   were : (place : ℕ) (other : ProcRec) → IsIn now place other → ((place ≡ slot) × (other ≡ after)) ⊎ ((place ≡ slot → ⊥) × IsIn r place other)
@@ -76,7 +97,7 @@ module _ (r : Records) (head : HeadRec) (slot : ℕ) (process after : ProcRec) (
 
   ended_still : (place : ℕ) (other : ProcRec) → updated r.procs slot (Some after) place ≡ Some other → other.state ≡ 3 → r.procs place ≡ Some other
   ended_still place other there state = elim (where_held r.procs slot place after other there) [
-    | inl here ↦ absurd (not_over after next.regions.live (sym (ap (λ (p : ProcRec). p.state) here.1) ∙ state))
+    | inl here ↦ absurd (not_over after next.live (sym (ap (λ (p : ProcRec). p.state) here.1) ∙ state))
     | inr before ↦ before.1
   ]
 
@@ -134,18 +155,44 @@ module _ (r : Records) (head : HeadRec) (slot : ℕ) (process after : ProcRec) (
     ];
   }
 
+  -- where all pages have frames and tables are clean
+  pub next_sound : AreMapped now → AreSound (changed_records (prepared r owners tables) head slot process after r.sigs trap)
+  next_sound mapped_now =
+      let head_fits : FitsHead head = subst (λ (h : Option HeadRec). IfSome h FitsHead) is_head (sound.values id.Head) in
+      let base = prepared r owners tables in
+      let after_head = with_record base id.Head (any.Head (served head trap process.pid)) in
+      record {
+        complete = complete_with after_head (id.Proc slot) (any.Proc after)
+            (complete_with base id.Head (any.Head (served head trap process.pid)) (complete_too r owners tables sound.complete) tt) tt;
+        values = values_with after_head (id.Proc slot) (any.Proc after)
+            (values_with base id.Head (any.Head (served head trap process.pid)) (values_too r owners tables sound.values) tt (served_fits head trap process.pid head_fits)) tt fits;
+        numbered = numbered_now;
+        in_calls = calls_now;
+        mapped = mapped_now;
+      }
+
+-- where its pages are the same
+module _ (r : Records) (head : HeadRec) (slot : ℕ) (process after : ProcRec) (trap : ℕ) (sound : AreSound r) (is_head : r.head ≡ Some head) (is : IsIn r slot process)
+    (next : IsAfter process after) (fits : FitsProc after) (call : after.state ≡ 2 → IsInCall r after) where
+  abbrev then_records : Records
+  then_records = changed_records r head slot process after r.sigs trap
+
+  were_then : (place : ℕ) (other : ProcRec) → IsIn then_records place other → ((place ≡ slot) × (other ≡ after)) ⊎ ((place ≡ slot → ⊥) × IsIn r place other)
+  were_then place other there =
+      were r head slot process after trap sound is_head is (next_of process after next) fits call r.owners r.table_words place other there
+
   mapped_here : is_mapped r slot after ≡ true
   mapped_here = mapped_same r slot after process next.regions ∙ sound.mapped.mapped slot process is
 
-  mapped_now : AreMapped now
-  mapped_now = record {
+  mapped_then : AreMapped then_records
+  mapped_then = record {
     mapped = λ place other there.
         mapped_stays r (Some (served head trap process.pid)) (updated r.procs slot (Some after)) r.sigs r.exits place other
-        ∙ elim (were place other there) [
+        ∙ elim (were_then place other there) [
           | inl here ↦ ap (λ (k : ℕ). is_mapped r k other) here.0 ∙ (ap (is_mapped r slot) here.1 ∙ mapped_here)
           | inr before ↦ sound.mapped.mapped place other before.1
         ];
-    clean = λ place other there table word few small no_place. elim (were place other there) [
+    clean = λ place other there table word few small no_place. elim (were_then place other there) [
       | inl here ↦
           let place_too : is_table_place process table word ≡ false =
           sym (places_same after process table word next.regions) ∙ (sym (ap (λ (p : ProcRec). is_table_place p table word) here.1) ∙ no_place) in
@@ -155,15 +202,4 @@ module _ (r : Records) (head : HeadRec) (slot : ℕ) (process after : ProcRec) (
   }
 
   pub after_sound : AreSound (changed_records r head slot process after r.sigs trap)
-  after_sound =
-      let head_fits : FitsHead head = subst (λ (h : Option HeadRec). IfSome h FitsHead) is_head (sound.values id.Head) in
-      let after_head = with_record r id.Head (any.Head (served head trap process.pid)) in
-      record {
-        complete = complete_with after_head (id.Proc slot) (any.Proc after)
-            (complete_with r id.Head (any.Head (served head trap process.pid)) sound.complete tt) tt;
-        values = values_with after_head (id.Proc slot) (any.Proc after)
-            (values_with r id.Head (any.Head (served head trap process.pid)) sound.values tt (served_fits head trap process.pid head_fits)) tt fits;
-        numbered = numbered_now;
-        in_calls = calls_now;
-        mapped = mapped_now;
-      }
+  after_sound = next_sound r head slot process after trap sound is_head is (next_of process after next) fits call r.owners r.table_words mapped_then

@@ -11,4 +11,6 @@ pub mod Written
 pub mod Described
 pub mod Served
 pub mod KeptSound
+pub mod Grown
+pub mod Counted
 pub mod Exported

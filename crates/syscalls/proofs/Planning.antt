@@ -1,5 +1,5 @@
 -- The records that a call sets are those of a process that ends, or those of one that becomes another.
-use Rattle.std.proofs.Common.{◌≡◌, ◌⊎◌, ◌==◌, ℕ, ◌+◌, ◌%◌, ◌≤◌, nat_lt, List, Option, Some, None, inl, inr, refl, arith}
+use Rattle.std.proofs.Common.{◌≡◌, ◌⊎◌, ◌==◌, ◌||◌, ℕ, ◌+◌, ◌%◌, ◌≤◌, nat_lt, List, Option, Some, None, inl, inr, refl, arith}
 use Rattle.std.proofs.lemmas.Bool.{cases_Bool}
 use Rattle.ow_base.specs.Sv32.{WordMap}
 use Rattle.ow_base.specs.Words.{minus}
@@ -14,15 +14,15 @@ use Rattle.record_layouts.specs.Unix.Calls.{tty_piece}
 use Rattle.record_layouts.specs.Held.{Records}
 use Rattle.record_layouts.specs.Pages.{pages_of}
 use Rattle.record_layouts.specs.Sound.{AreSound, IsIn}
+use Rattle.frame_table.specs.Free.{free_before}
 use Rattle.process_table.specs.Meaning.{KeepDescriptors}
 use Rattle.process_table.specs.Patches.{bank_of, ended_items, saved_process}
 use Rattle.process_table.proofs.Descriptors.{end_keeps, set_keeps}
-use Rattle.syscalls.specs.Planned.{answered_process, argument_of, caller_with, is_written, items_in, items_of, named, planned_answer, planned_call, planned_further, planned_nothing, planned_number, planned_of_call, planned_on, planned_piece, planned_tty, planned_write, planned_write_on, staying_process, stopped_answer, written_process, yielded_process}
-use Rattle.syscalls.proofs.Becoming.{IsAfter}
+use Rattle.syscalls.specs.Planned.{answered_process, argument_of, break_of, caller_with, grown_process, is_written, items_in, items_of, named, pages_more, planned_answer, planned_call, planned_further, planned_nothing, planned_number, planned_of_call, planned_on, planned_piece, planned_sbrk, planned_tty, planned_write, planned_write_on, staying_process, stopped_answer, written_process, yielded_process}
 
 -- what a process becomes in a call that goes on or is answered; it is then in no call but a write or the one it was in
 pub record IsServedAs (process after : ProcRec) : Type 0 where
-  pub next : IsAfter process after
+  pub descs : after.descs ≡ process.descs
   pub call : after.state ≡ 2 → (after.call ≡ 2) ⊎ ((process.state ≡ 2) × (after.call ≡ process.call))
 
 -- what holds of the records of both kinds holds of those of each plan
@@ -34,25 +34,25 @@ module _ (P : List PatchItem → Type 0) (r : Records) (head : HeadRec) (slot tr
 
   answered : (answer : ℕ) → P (items_in (planned_answer (caller_with slot trap head saved) answer))
   answered answer = sets (answered_process saved answer) (record {
-    next = record { pid = refl; parent = refl; status = refl; descs = refl; regions = record { live = refl; lives = is.live; code = refl; values = refl; brk = refl } };
+    descs = refl;
     call = λ s. absurd (omega (arith, s));
   })
 
   yielded : P (items_of (caller_with slot trap head saved) (yielded_process saved))
   yielded = sets (yielded_process saved) (record {
-    next = record { pid = refl; parent = refl; status = refl; descs = refl; regions = record { live = refl; lives = is.live; code = refl; values = refl; brk = refl } };
+    descs = refl;
     call = λ s. absurd (omega (arith, s));
   })
 
   stayed : (done : ℕ) → P (items_of (caller_with slot trap head saved) (staying_process saved done))
   stayed done = sets (staying_process saved done) (record {
-    next = record { pid = refl; parent = refl; status = refl; descs = refl; regions = record { live = refl; lives = is.live; code = refl; values = refl; brk = refl } };
+    descs = refl;
     call = λ s. inl refl;
   })
 
   nothing : P (items_in (planned_nothing (caller_with slot trap head saved)))
   nothing = sets saved (record {
-    next = record { pid = refl; parent = refl; status = refl; descs = refl; regions = record { live = is.live; lives = is.live; code = refl; values = refl; brk = refl } };
+    descs = refl;
     call = λ s. inr (s, refl);
   })
 
@@ -86,6 +86,21 @@ module _ (P : List PatchItem → Type 0) (r : Records) (head : HeadRec) (slot tr
     ]
   ]
 
+  grown : (bytes : ℕ) → P (items_of (caller_with slot trap head saved) (grown_process saved bytes))
+  grown bytes = sets (grown_process saved bytes) (record {
+    descs = refl;
+    call = λ s. absurd (omega (arith, s));
+  })
+
+  sbrk_items : P (items_in (planned_sbrk r (caller_with slot trap head saved)))
+  unfolding planned_sbrk
+  sbrk_items =
+      let bytes = argument_of saved 0 in
+      elim (cases_Bool (nat_lt 0x400000 (break_of saved + bytes) || nat_lt (free_before r r.map.user_frames) (pages_more saved bytes))) [
+        | inl full ↦ rw full (answered (minus 12))
+        | inr room ↦ rw room (grown bytes)
+      ]
+
   pub number_items : (number : ℕ) → P (items_in (planned_number r pages (caller_with slot trap head saved) number))
   unfolding planned_number planned_write
   number_items number = elim (cases_Bool (number == 1)) [
@@ -94,9 +109,12 @@ module _ (P : List PatchItem → Type 0) (r : Records) (head : HeadRec) (slot tr
       | inl writes ↦ rw (no_exit, writes) (write_items (named r process.descs (argument_of saved 0)))
       | inr no_write ↦ elim (cases_Bool (number == 7)) [
         | inl asks ↦ rw (no_exit, no_write, asks) (answered process.pid)
-        | inr no_pid ↦ elim (cases_Bool (number == 18)) [
-          | inl yields ↦ rw (no_exit, no_write, no_pid, yields) yielded
-          | inr none ↦ rw (no_exit, no_write, no_pid, none) (answered (minus 38))
+        | inr no_pid ↦ elim (cases_Bool (number == 8)) [
+          | inl grows ↦ rw (no_exit, no_write, no_pid, grows) sbrk_items
+          | inr no_sbrk ↦ elim (cases_Bool (number == 18)) [
+            | inl yields ↦ rw (no_exit, no_write, no_pid, no_sbrk, yields) yielded
+            | inr none ↦ rw (no_exit, no_write, no_pid, no_sbrk, none) (answered (minus 38))
+          ]
         ]
       ]
     ]
@@ -119,7 +137,7 @@ module _ (r : Records) (head : HeadRec) (slot trap : ℕ) (process : ProcRec) (b
   ended_keeps status small = end_keeps r head slot process status trap sound is
 
   served_keeps : (after : ProcRec) → IsServedAs process after → KeepDescriptors r (items_of (caller_with slot trap head (saved_process process bank)) after)
-  served_keeps after served = set_keeps r head slot process after trap after.pid is served.next.descs
+  served_keeps after served = set_keeps r head slot process after trap after.pid is served.descs
 
 pub call_keeps_descriptors : (r : Records) (words : WordMap) (slot trap : ℕ) (head : HeadRec) (process : ProcRec) (bank : Bank) → AreSound r → IsIn r slot process
     → KeepDescriptors r (items_in (planned_call r words slot trap head process bank))
