@@ -1,8 +1,7 @@
 -- Records in which a live process becomes another with the same pid, parent and descriptors are sound again, where its
 -- pages are the same, or where all pages have frames and clean tables.
-use Rattle.std.proofs.Common.{◌≡◌, ◌≢◌, ◌⊎◌, ◌==◌, ℕ, ◌+◌, ◌-◌, ◌*◌, ◌<◌, ◌≤◌, Bool, true, false, nat_lt, List, slice_index, Option, Some, None, IfSome, is_some, inl, inr, refl, sym, ap, subst, ◌∙◌, arith}
+use Rattle.std.proofs.Common.{◌≡◌, ◌≢◌, ◌⊎◌, ℕ, ◌+◌, ◌-◌, ◌*◌, true, false, nat_lt, List, slice_index, Option, Some, IfSome, is_some, inl, inr, refl, sym, ap, subst, ◌∙◌, arith}
 use Rattle.std.proofs.lemmas.Bool.Decides.{nat_tests}
-use Rattle.std.proofs.lemmas.Grind.{common_steps}
 use Rattle.ow_base.specs.Words.{updated}
 use Rattle.record_layouts.specs.declared.places.RecordId.{RecordId}
 use Rattle.record_layouts.specs.declared.places.RecordId.TheVariants as id
@@ -12,11 +11,10 @@ use Rattle.record_layouts.specs.declared.head.HeadRec.{HeadRec}
 use Rattle.record_layouts.specs.declared.proc.ProcRec.{ProcRec}
 use Rattle.record_layouts.specs.declared.sig.SigRec.{SigRec}
 use Rattle.record_layouts.specs.declared.desc.DescRec.{DescRec}
-use Rattle.record_layouts.specs.declared.exit.ExitRec.{ExitRec}
 use Rattle.record_layouts.specs.At.{Fits, at}
 use Rattle.record_layouts.specs.Held.{AreComplete, AreValues, Records, with_record}
 use Rattle.record_layouts.specs.Head.{FitsHead}
-use Rattle.record_layouts.specs.Pages.{is_live, is_mapped, region_of, high_place}
+use Rattle.record_layouts.specs.Pages.{is_live, is_mapped, high_place}
 use Rattle.record_layouts.specs.Proc.{FitsProc}
 use Rattle.record_layouts.specs.Decode.{slot_by, next_by}
 use Rattle.record_layouts.specs.Sound.{IsIn, AreNumbered, AreInCalls, AreMapped, AreSound, IsInCall, IsTransfer, is_table_place}

@@ -1,5 +1,5 @@
 -- Of records of which only head, processes, terminals and rows are others, the pages of a process are the same.
-use Rattle.std.proofs.Common.{◌≡◌, ◌&&◌, ℕ, zero, suc, ◌+◌, Bool, Option, is_some, refl, ap, ◌∙◌}
+use Rattle.std.proofs.Common.{◌≡◌, ◌&&◌, ℕ, zero, suc, ◌+◌, Bool, Option, is_some, refl, ap}
 use Rattle.ow_base.specs.Sv32.{WordMap}
 use Rattle.record_layouts.specs.declared.head.HeadRec.{HeadRec}
 use Rattle.record_layouts.specs.declared.proc.ProcRec.{ProcRec}

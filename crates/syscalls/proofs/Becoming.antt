@@ -1,9 +1,7 @@
 -- A live process of sound records becomes another with the same pid, parent, pages and descriptors: what the records
 -- then stand for.
-use Rattle.std.proofs.Common.{◌≡◌, ◌≢◌, ◌⊎◌, ◌==◌, ◌&&◌, ◌||◌, if◌then◌else◌, ℕ, zero, suc, ◌+◌, ◌-◌, ◌<◌, ◌≤◌, Bool, true, false, List, [], ◌∷◌, Option, Some, None, is_some, inl, inr, refl, sym, ap, subst, ◌∙◌, arith}
-use Rattle.std.proofs.lemmas.Bool.{cases_Bool}
+use Rattle.std.proofs.Common.{◌≡◌, ◌==◌, ℕ, ◌+◌, Bool, true, List, Option, Some, None, is_some, inl, inr, refl, sym, ap, subst, ◌∙◌, arith}
 use Rattle.std.proofs.lemmas.Bool.Decides.{nat_tests}
-use Rattle.std.proofs.lemmas.Grind.{common_steps}
 use Rattle.ow_base.specs.Sv32.{WordMap}
 use Rattle.ow_base.specs.Words.{updated}
 use Rattle.ow_base.specs.declared.machine.Bank.{Bank}
@@ -11,20 +9,20 @@ use Rattle.record_layouts.specs.declared.head.HeadRec.{HeadRec}
 use Rattle.record_layouts.specs.declared.proc.ProcRec.{ProcRec}
 use Rattle.record_layouts.specs.declared.term.TermRec.{TermRec}
 use Rattle.record_layouts.specs.declared.row.RowRec.{RowRec}
-use Rattle.record_layouts.specs.Unix.State.{Unix, AtKernel, Process, EndedChild, Description, in_use, is_named, is_named_by}
+use Rattle.record_layouts.specs.Unix.State.{AtKernel, Process, in_use}
 use Rattle.record_layouts.specs.Unix.Calls.{trapped, with_process}
 use Rattle.record_layouts.specs.Unix.Choice.{least_from}
-use Rattle.record_layouts.specs.Held.{Records, with_items}
+use Rattle.record_layouts.specs.Held.{Records}
 use Rattle.record_layouts.specs.Pages.{is_live, is_mapped, pages_of}
-use Rattle.record_layouts.specs.Decode.{Context, InKernel, InUser, slot_by, is_number, pid_in, decodes, description_by, ended_by, ended_in, ended_of, handlers_of, is_ended_as, is_pending, status_by, next_by, last_by, process_at, process_of, processes_of, terminal_by, unix_of, with_bank}
+use Rattle.record_layouts.specs.Decode.{Context, InKernel, InUser, slot_by, pid_in, decodes, description_by, ended_by, ended_in, ended_of, handlers_of, is_ended_as, is_pending, status_by, next_by, process_at, process_of, processes_of, terminal_by, unix_of, with_bank}
 use Rattle.record_layouts.specs.Sound.{IsIn, AreSound}
-use Rattle.process_table.specs.Patches.{bank_of, head_item, process_item}
+use Rattle.process_table.specs.Patches.{bank_of}
 use Rattle.process_table.proofs.Kept.{set_here, set_other, same_or_not}
 use Rattle.process_table.proofs.Regions.{SameRegions, mapped_same}
 use Rattle.process_table.specs.Meaning.{IsOf}
 use Rattle.process_table.proofs.EndedUnix.{live_not_ended, others_are}
 use Rattle.process_table.proofs.ChangedUnix.{in_use_still}
-use Rattle.process_table.proofs.Seats.{Living, Missing, found_in, living, not_found, pid_here, pid_range, this_number}
+use Rattle.process_table.proofs.Seats.{Living, found_in, living, not_found, pid_here, this_number}
 use Rattle.syscalls.proofs.Altered.{altered, decoded_stays, mapped_stays, pid_stays}
 
 -- a live process that is another but for its registers, its call and its pages
@@ -134,6 +132,7 @@ module _ (r : Records) (head : HeadRec) (slot : ℕ) (process after : ProcRec) (
   stays_mapped place other mapped = mapped_stays base (Some (record head { served = trap; last = process.pid })) (updated r.procs slot (Some after)) terms rows place other ∙ mapped
 
   here : process_at become words_then process.pid ≡ Some then_is
+  unfolding pid_in
   here =
       let exit : slot_by (r.exits after.pid) ≡ Some slot = ap (λ (p : ℕ). slot_by (r.exits p)) next.pid ∙ sound.numbered.exit slot process is in
       let seat : pid_in become slot ≡ Some after.pid =
@@ -146,6 +145,7 @@ module _ (r : Records) (head : HeadRec) (slot : ℕ) (process after : ProcRec) (
       ∙ ap (λ (p : Process). Some p) (decoded_stays base (Some (record head { served = trap; last = process.pid })) (updated r.procs slot (Some after)) terms rows words_then slot after)
 
   there_too : (q : ℕ) → (live : Living r words q) → (q ≡ process.pid → ⊥) → process_at become words_then q ≡ process_at r words q
+  unfolding pid_in
   there_too q live apart =
       let places : live.slot ≡ slot → ⊥ = λ same.
       apart (sound.numbered.one_slot q process.pid slot (subst (λ (k : ℕ). slot_by (r.exits q) ≡ Some k) same live.exit) (sound.numbered.exit slot process is)) in

@@ -1,6 +1,6 @@
 -- Pages that are prepared behind the heap of a process: once its record counts them, it has them, and all others keep
 -- theirs.
-use Rattle.std.proofs.Common.{◌≡◌, ◌⊎◌, ◌==◌, ◌&&◌, ◌||◌, ℕ, ◌+◌, ◌-◌, ◌*◌, ◌/◌, ◌<◌, ◌≤◌, Bool, true, false, nat_lt, List, Option, Some, None, is_some, inl, inr, refl, sym, ap, subst, ◌∙◌, arith}
+use Rattle.std.proofs.Common.{◌≡◌, ◌==◌, ◌&&◌, ◌||◌, ℕ, ◌+◌, ◌*◌, Bool, true, false, Some, is_some, inl, inr, refl, sym, ap, ◌∙◌, arith}
 use Rattle.std.proofs.lemmas.Bool.{cases_Bool}
 use Rattle.std.proofs.lemmas.Bool.Decides.{nat_tests}
 use Rattle.ow_base.specs.Sv32.{WordMap}
@@ -8,8 +8,8 @@ use Rattle.ow_base.specs.Words.{updated}
 use Rattle.record_layouts.specs.declared.head.HeadRec.{HeadRec}
 use Rattle.record_layouts.specs.declared.proc.ProcRec.{ProcRec}
 use Rattle.record_layouts.specs.Unix.State.{is_within}
-use Rattle.record_layouts.specs.Held.{Held, Records}
-use Rattle.record_layouts.specs.Pages.{frame_of, heap_pages, high_place, is_linked, is_live, is_mapped, low_place, pages_of, region_of}
+use Rattle.record_layouts.specs.Held.{Records}
+use Rattle.record_layouts.specs.Pages.{frame_of, high_place, is_live, is_mapped, low_place, pages_of, region_of}
 use Rattle.record_layouts.specs.Proc.{FitsProc}
 use Rattle.record_layouts.specs.Sound.{AreMapped, AreSound, IsIn, is_table_place}
 use Rattle.frame_table.proofs.Counting.{fits_there}

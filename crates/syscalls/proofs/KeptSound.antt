@@ -1,5 +1,5 @@
 -- Records on which a call is served are sound again.
-use Rattle.std.proofs.Common.{◌≡◌, ◌≢◌, ◌==◌, if◌then◌else◌, ℕ, zero, suc, ◌+◌, ◌-◌, ◌/◌, ◌%◌, ◌<◌, ◌≤◌, Bool, true, false, nat_lt, min, List, [], ◌∷◌, length, slice_get, slice_index, Option, Some, None, IfSome, inl, inr, refl, sym, ap, subst, ◌∙◌, arith}
+use Rattle.std.proofs.Common.{◌≡◌, ◌≢◌, ◌==◌, ◌||◌, ℕ, zero, suc, ◌+◌, ◌-◌, ◌/◌, ◌%◌, ◌<◌, ◌≤◌, Bool, true, false, nat_lt, List, [], ◌∷◌, length, slice_get, slice_index, Option, Some, None, IfSome, inl, inr, refl, sym, subst, arith}
 use Rattle.std.proofs.lemmas.Bool.{cases_Bool}
 use Rattle.std.proofs.lemmas.Bool.Decides.{eqb_tells, nat_tests}
 use Rattle.ow_base.specs.Sv32.{WordMap}
@@ -15,18 +15,20 @@ use Rattle.record_layouts.specs.declared.term.TermRec.{TermRec}
 use Rattle.record_layouts.specs.declared.row.RowRec.{RowRec}
 use Rattle.record_layouts.specs.Unix.Calls.{tty_piece}
 use Rattle.record_layouts.specs.Held.{Records, with_items}
-use Rattle.record_layouts.specs.Pages.{is_live, pages_of}
+use Rattle.record_layouts.specs.Pages.{pages_of}
 use Rattle.record_layouts.specs.Proc.{FitsLive, FitsProc}
-use Rattle.record_layouts.specs.Sound.{IsIn, IsInCall, IsOpenTo, IsTransfer, AreSound}
+use Rattle.record_layouts.specs.Sound.{IsIn, IsInCall, IsOpenTo, AreSound}
 use Rattle.record_layouts.specs.Spelling.{IsStatus}
+use Rattle.frame_table.specs.Free.{free_before}
+use Rattle.address_space.specs.Spaces.{IsGrown, OnlyPrepares}
 use Rattle.process_table.specs.Patches.{bank_of, ended_items, saved_process}
 use Rattle.process_table.proofs.Ended.{live_fits}
 use Rattle.process_table.proofs.EndedSound.{ended_sound}
-use Rattle.process_table.proofs.Regions.{SameRegions}
-use Rattle.syscalls.specs.Planned.{Planned, PlanOnce, PlanWrite, answered_process, argument_of, caller_with, if_open, is_written, items_of, named, named_by, planned_answer, planned_call, planned_further, planned_number, planned_on, planned_piece, planned_tty, planned_write, planned_write_on, staying_process, stopped_answer, written_process, yielded_process}
-use Rattle.syscalls.specs.Done.{KeepsSound}
-use Rattle.syscalls.proofs.Becoming.{IsAfter}
-use Rattle.syscalls.proofs.AfterSound.{after_sound}
+use Rattle.syscalls.specs.Planned.{PlanGrow, answered_process, argument_of, break_of, caller_with, grown_process, if_open, is_written, items_of, named, named_by, pages_more, planned_call, planned_further, planned_number, planned_on, planned_piece, planned_sbrk, planned_tty, planned_write, planned_write_on, staying_process, stopped_answer, written_process, yielded_process}
+use Rattle.syscalls.specs.Done.{KeepsSound, held_as}
+use Rattle.syscalls.proofs.Becoming.{IsAfter, prepared}
+use Rattle.syscalls.proofs.AfterSound.{after_sound, next_sound}
+use Rattle.syscalls.proofs.Grown.{grown_are_mapped, grown_has}
 use Rattle.syscalls.proofs.Naming.{InWrite, in_write}
 
 -- what a process has that a descriptor of it names a description
@@ -174,6 +176,47 @@ module _ (r : Records) (head : HeadRec) (slot : ℕ) (process : ProcRec) (bank :
   pub nothing_sound : (process.state ≡ 2 → IsInCall r saved) → AreSound (with_items r (items_of (caller_with slot trap head saved) saved))
   nothing_sound call = after_sound r head slot process saved trap sound is_head is same_after same_fits call
 
+  grown_fits : (bytes : ℕ) → nat_lt 0x400000 (break_of saved + bytes) ≡ false → FitsProc (grown_process saved bytes)
+  grown_fits bytes room =
+      let most : break_of saved + bytes ≤ 0x400000 = grind (arith, nat_tests, room) in
+      record {
+        state = omega arith;
+        free = λ s. absurd (omega (arith, s));
+        live = λ s. record {
+          pid = held.pid;
+          parent = held.parent;
+          code_pages = held.code_pages;
+          data_pages = held.data_pages;
+          heap_end = omega (arith, most);
+          flags = held.flags;
+          status = held.status;
+          descs = held.descs;
+        };
+        no_call = λ s. refl;
+        none_done = λ s. refl;
+        ended = λ s. absurd (omega (arith, s));
+      }
+
+  pub grown_sound : (bytes : ℕ) (words then_words : WordMap) (owners : ℕ → ℕ) (tables : (slot table word : ℕ) → ℕ) → nat_lt 0x400000 (break_of saved + bytes) ≡ false
+      → OnlyPrepares slot (held_as r words) (held_as (prepared r owners tables) then_words)
+      → IsGrown (held_as r words) (held_as (prepared r owners tables) then_words) slot (pages_more saved bytes) process
+      → AreSound (with_items (prepared r owners tables) (items_of (caller_with slot trap head saved) (grown_process saved bytes)))
+  grown_sound bytes words then_words owners tables room prepares grows =
+      next_sound r head slot process (grown_process saved bytes) trap sound is_head is (record { pid = refl; parent = refl; status = refl; descs = refl; live = refl })
+      (grown_fits bytes room) (λ s. absurd (omega (arith, s))) owners tables
+      (grown_are_mapped r words slot owners tables then_words sound prepares process is (grown_process saved bytes) (pages_more saved bytes)
+      (grown_has process saved bytes refl refl refl) grows head trap)
+
+  pub grown_keeps : (bytes : ℕ) → nat_lt 0x400000 (break_of saved + bytes) ≡ false
+      → KeepsSound r slot process (PlanGrow (pages_more saved bytes) (items_of (caller_with slot trap head saved) (grown_process saved bytes)))
+  grown_keeps bytes room words then_words new prepares grows =
+      let items = items_of (caller_with slot trap head saved) (grown_process saved bytes) in
+      let base = prepared r new.owners new.table_words in
+      let is_base : new ≡ base = prepares.records in
+      let prepares_base = subst (λ (x : Records). OnlyPrepares slot (held_as r words) (held_as x then_words)) is_base prepares in
+      let grows_base = subst (λ (x : Records). IsGrown (held_as r words) (held_as x then_words) slot (pages_more saved bytes) process) is_base grows in
+      subst (λ (x : Records). AreSound (with_items x items)) (sym is_base) (grown_sound bytes words then_words new.owners new.table_words room prepares_base grows_base)
+
   pub exited_sound : (status : ℕ) → IsStatus status → AreSound (with_items r (ended_items head slot saved status trap))
   unfolding ended_items
   exited_sound status word = ended_sound r head slot process status trap sound is_head is word
@@ -202,7 +245,7 @@ module _ (r : Records) (head : HeadRec) (slot : ℕ) (process : ProcRec) (bank :
   abbrev caller_saved : ProcRec
   caller_saved = saved_process process bank
 
-  pub tty_keeps : (d : DescRec) (tty done : ℕ) → IsWrite r caller_saved d → done < argument_of caller_saved 2 → KeepsSound r (planned_tty pages (caller_with slot trap head caller_saved) tty done)
+  pub tty_keeps : (d : DescRec) (tty done : ℕ) → IsWrite r caller_saved d → done < argument_of caller_saved 2 → KeepsSound r slot process (planned_tty pages (caller_with slot trap head caller_saved) tty done)
   unfolding planned_tty
   tty_keeps d tty done write left =
       let count = argument_of caller_saved 2 in
@@ -216,14 +259,14 @@ module _ (r : Records) (head : HeadRec) (slot : ℕ) (process : ProcRec) (bank :
 
   -- on a file nothing is done; a process in a call stays in it
   on_keeps : (d : DescRec) (done : ℕ) → (process.state ≡ 2 → IsInCall r caller_saved) → IsWrite r caller_saved d → done < argument_of caller_saved 2
-      → KeepsSound r (planned_on pages (caller_with slot trap head caller_saved) d done)
+      → KeepsSound r slot process (planned_on pages (caller_with slot trap head caller_saved) d done)
   on_keeps d done call write left = elim (cases_Bool (d.object == 1)) [
     | inl file ↦ rw file (nothing_sound r head slot process bank trap sound is_head is call)
     | inr terminal ↦ rw terminal (tty_keeps d d.index done write left)
   ]
 
   write_keeps : (d : DescRec) → process.state ≡ 1 → IsNamed r process.descs (argument_of caller_saved 0) d → length process.descs ≡ 8
-      → KeepsSound r (planned_write_on pages (caller_with slot trap head caller_saved) (Some d))
+      → KeepsSound r slot process (planned_write_on pages (caller_with slot trap head caller_saved) (Some d))
   unfolding planned_write_on
   write_keeps d out it eight = elim (cases_Bool (is_written d)) [
     | inl writes ↦ elim (cases_Bool (nat_lt 0x7fffffff (argument_of caller_saved 2))) [
@@ -241,12 +284,26 @@ module _ (r : Records) (head : HeadRec) (slot : ℕ) (process : ProcRec) (bank :
   ]
 
   write_by : (held : Option DescRec) → process.state ≡ 1 → ((d : DescRec) → held ≡ Some d → IsNamed r process.descs (argument_of caller_saved 0) d) → length process.descs ≡ 8
-      → KeepsSound r (planned_write_on pages (caller_with slot trap head caller_saved) held)
+      → KeepsSound r slot process (planned_write_on pages (caller_with slot trap head caller_saved) held)
   unfolding planned_write_on
   write_by None out it eight = answered_sound r head slot process bank trap sound is_head is (minus 9)
   write_by (Some d) out it eight = write_keeps d out (it d refl) eight
 
-  pub number_keeps : (number : ℕ) → process.state ≡ 1 → length process.descs ≡ 8 → KeepsSound r (planned_number r pages (caller_with slot trap head caller_saved) number)
+  neither : (one other : Bool) → (one || other) ≡ false → one ≡ false
+  neither one other none = grind (arith, none)
+
+  sbrk_keeps : KeepsSound r slot process (planned_sbrk r (caller_with slot trap head caller_saved))
+  unfolding planned_sbrk
+  sbrk_keeps =
+      let bytes = argument_of caller_saved 0 in
+      let far = nat_lt 0x400000 (break_of caller_saved + bytes) in
+      let few = nat_lt (free_before r r.map.user_frames) (pages_more caller_saved bytes) in
+      elim (cases_Bool (far || few)) [
+        | inl full ↦ rw full (answered_sound r head slot process bank trap sound is_head is (minus 12))
+        | inr room ↦ rw room (grown_keeps r head slot process bank trap sound is_head is bytes (neither far few room))
+      ]
+
+  pub number_keeps : (number : ℕ) → process.state ≡ 1 → length process.descs ≡ 8 → KeepsSound r slot process (planned_number r pages (caller_with slot trap head caller_saved) number)
   unfolding planned_number planned_write
   number_keeps number out eight = elim (cases_Bool (number == 1)) [
     | inl exits ↦
@@ -256,31 +313,34 @@ module _ (r : Records) (head : HeadRec) (slot : ℕ) (process : ProcRec) (bank :
       | inl writes ↦ rw (no_exit, writes) (write_by (named r process.descs (argument_of caller_saved 0)) out (λ d it. is_named r process.descs (argument_of caller_saved 0) d it) eight)
       | inr no_write ↦ elim (cases_Bool (number == 7)) [
         | inl asks ↦ rw (no_exit, no_write, asks) (answered_sound r head slot process bank trap sound is_head is process.pid)
-        | inr no_pid ↦ elim (cases_Bool (number == 18)) [
-          | inl yields ↦ rw (no_exit, no_write, no_pid, yields) (yielded_sound r head slot process bank trap sound is_head is)
-          | inr none ↦ rw (no_exit, no_write, no_pid, none) (answered_sound r head slot process bank trap sound is_head is (minus 38))
+        | inr no_pid ↦ elim (cases_Bool (number == 8)) [
+          | inl grows ↦ rw (no_exit, no_write, no_pid, grows) sbrk_keeps
+          | inr no_sbrk ↦ elim (cases_Bool (number == 18)) [
+            | inl yields ↦ rw (no_exit, no_write, no_pid, no_sbrk, yields) (yielded_sound r head slot process bank trap sound is_head is)
+            | inr none ↦ rw (no_exit, no_write, no_pid, no_sbrk, none) (answered_sound r head slot process bank trap sound is_head is (minus 38))
+          ]
         ]
       ]
     ]
   ]
 
 pub call_keeps : (r : Records) (words : WordMap) (slot trap : ℕ) (head : HeadRec) (process : ProcRec) (bank : Bank) → AreSound r → r.head ≡ Some head → IsIn r slot process
-    → process.state ≡ 1 → length process.descs ≡ 8 → KeepsSound r (planned_call r words slot trap head process bank)
+    → process.state ≡ 1 → length process.descs ≡ 8 → KeepsSound r slot process (planned_call r words slot trap head process bank)
 unfolding planned_call
 call_keeps r words slot trap head process bank sound is_head is out eight =
     number_keeps r head slot process bank trap sound is_head is (pages_of r words slot process) (register bank.regs 17) out eight
 
 write_goes_on : (r : Records) (words : WordMap) (slot trap : ℕ) (head : HeadRec) (process : ProcRec) → AreSound r → r.head ≡ Some head → IsIn r slot process → IsInCall r process → InWrite r process
-    → KeepsSound r (planned_further (pages_of r words slot process) (caller_with slot trap head process) (named r process.descs (argument_of process 0)))
+    → KeepsSound r slot process (planned_further (pages_of r words slot process) (caller_with slot trap head process) (named r process.descs (argument_of process 0)))
 write_goes_on r words slot trap head process sound is_head is call it =
     let d = it.description in
     let t = it.transfer in
     let write : IsWrite r process d = record { descriptor = t.descriptor; named = t.named; there = t.there; allowed = t.allowed; count = t.count } in
-    subst (λ (held : Option DescRec). KeepsSound r (planned_further (pages_of r words slot process) (caller_with slot trap head process) held)) (sym it.is_named)
+    subst (λ (held : Option DescRec). KeepsSound r slot process (planned_further (pages_of r words slot process) (caller_with slot trap head process) held)) (sym it.is_named)
     (on_keeps r head slot process (bank_of process) trap sound is_head is (pages_of r words slot process) d process.done (λ _. call) write t.left)
 
 pub piece_keeps : (r : Records) (words : WordMap) (slot trap : ℕ) (head : HeadRec) (process : ProcRec) → AreSound r → r.head ≡ Some head → IsIn r slot process → process.state ≡ 2
-    → KeepsSound r (planned_piece r words slot trap head process)
+    → KeepsSound r slot process (planned_piece r words slot trap head process)
 unfolding planned_piece
 piece_keeps r words slot trap head process sound is_head is state =
     let call : IsInCall r process = sound.in_calls.calls slot process is state in

@@ -1,11 +1,10 @@
 -- What the terminals then are.
-use Rattle.std.proofs.Common.{◌≡◌, ◌≢◌, ◌==◌, ℕ, ◌+◌, ◌<◌, Bool, true, false, List, ◌++◌, Option, Some, None, inl, inr, refl, sym, ap, subst, ◌∙◌, arith}
+use Rattle.std.proofs.Common.{◌≡◌, ℕ, List, Option, Some, None, inl, inr, sym, ap, subst, ◌∙◌}
 use Rattle.ow_base.specs.Words.{updated}
 use Rattle.record_layouts.specs.declared.term.TermRec.{TermRec}
-use Rattle.record_layouts.specs.Unix.State.{Terminal}
 use Rattle.record_layouts.specs.Unix.Calls.{with_tape}
 use Rattle.record_layouts.specs.Held.{Records}
-use Rattle.record_layouts.specs.Decode.{tape_by, terminal_by}
+use Rattle.record_layouts.specs.Decode.{terminal_by}
 use Rattle.process_table.proofs.Kept.{set_here, set_other, same_or_not}
 use Rattle.syscalls.specs.Done.{AreCounted, AreCountedBy, AreWritten}
 

@@ -1,14 +1,13 @@
 -- The service that a call asks for, and when it may be asked.
-use Rattle.std.specs.Prelude.{◌≡◌, ℕ, ◌<◌, ◌≤◌, true, List, Option, Some, None, IfSome}
+use Rattle.std.specs.Prelude.{◌≡◌, ℕ, ◌<◌, ◌≤◌, true, Option, Some, None, IfSome}
 use Rattle.ow_base.specs.Sv32.{WordMap}
 use Rattle.ow_base.specs.Pages.{is_readable}
 use Rattle.ow_base.specs.declared.machine.Bank.{Bank}
 use Rattle.record_layouts.specs.declared.proc.ProcRec.{ProcRec}
-use Rattle.record_layouts.specs.declared.patch.PatchItem.{PatchItem}
 use Rattle.record_layouts.specs.Held.{Records, AreComplete}
 use Rattle.record_layouts.specs.Head.{FitsHead}
 use Rattle.record_layouts.specs.Proc.{FitsProc}
-use Rattle.record_layouts.specs.Pages.{is_live, is_mapped, pages_of}
+use Rattle.record_layouts.specs.Pages.{is_live, is_mapped}
 use Rattle.record_layouts.specs.Patch.{IsPatch}
 use Rattle.record_layouts.specs.Sound.{IsInCall}
 use Rattle.process_table.specs.Patches.{bank_of, saved_process}

@@ -28,8 +28,8 @@ const YIELD: u32 = 18;
 
 const NUMBER: u32 = 17;
 
-// The errors: no such descriptor or no right to write, an address that cannot be read, a count that is too large, and
-// a number that is no call.
+// The errors: no such descriptor or no right to write, an address that cannot be read, a count that is too large, no
+// room for a heap, and a number that is no call.
 const EBADF: Errno = Errno(9);
 
 const EFAULT: Errno = Errno(14);
@@ -231,13 +231,16 @@ fn serve<V: RecordView>(view: &V, caller: &Caller, number: u32, user_frames: u32
 /// What the call of the process in the slot asks for, in the trap `now.trap`.
 ///
 /// The process is live and outside a call, and `bank` is what the processor has of it: the number of the call is in a7
-/// and its arguments are in a0, a1 and a2. The calls are exit (1), write (2), getpid (7) and yield (18); every other
-/// number answers ENOSYS. A write answers EBADF where the descriptor stands for nothing that is open to write, then
-/// EINVAL where the count is above 0x7fffffff, then 0 where it is 0; else it makes its first piece, of at most 16
-/// bytes, which answers EFAULT where a byte of it cannot be read. Errors change nothing else. Writes on files are not
-/// built: the trap of one is served, and the process is left before its call.
+/// and its arguments are in a0, a1 and a2. The calls are exit (1), write (2), getpid (7), sbrk (8) and yield (18);
+/// every other number answers ENOSYS. A write answers EBADF where the descriptor stands for nothing that is open to
+/// write, then EINVAL where the count is above 0x7fffffff, then 0 where it is 0; else it makes its first piece, of at
+/// most 16 bytes, which answers EFAULT where a byte of it cannot be read. An sbrk answers where the break was, and
+/// ENOMEM where the break would pass 0x00400000 or fewer user frames are free than the heap takes pages more. Errors
+/// change nothing else. Writes on files are not built: the trap of one is served, and the process is left before its
+/// call.
 ///
-/// Every record decodes, and each page of the process has a frame.
+/// Every record decodes, each page of the process has a frame, and `now.user_frames` says how many user frames there
+/// are.
 #[tactic(auto, unfolding(crate::specs::Planned::planned_call))]
 pub fn enter_call<V: RecordView>(view: &V, slot: u32, bank: &Bank, now: &Now) -> Service
     requires can { CanCall (V.records view.now) slot }

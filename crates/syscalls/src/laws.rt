@@ -16,8 +16,8 @@ ghost use Rattle.syscalls.specs.Planned.{items_in, planned_call, planned_piece};
 ghost use Rattle.syscalls.specs.Serving.{CanCall, IsInside};
 
 /// Once what the call of a process in user mode asks for is done, the records, the words of pages and the tapes stand
-/// for the state in which the call is call_entered. The free user frames and the pages of all live processes are all
-/// user frames.
+/// for the state in which the call is call_entered. Before, the free user frames and the pages of all live processes are
+/// all user frames.
 pub const fn calls_are_entered()
     ensures { (r : Records) (words : WordMap) (tapes : ℕ → List ℕ) (slot trap count : ℕ) (head : HeadRec) (process : ProcRec) (bank : Bank)
         (steps traps : ℕ) (p : Process) (done : Records) (done_words : WordMap) (done_tapes : ℕ → List ℕ)
@@ -51,7 +51,8 @@ pub const fn sound_records_serve()
 {}
 
 /// Records on which what a call asks for is done are sound again. Where bytes are written before, so must be the
-/// records that this leaves. The eight words of descriptors are those of the process's record.
+/// records that this leaves; pages that are prepared before count then. The eight words of descriptors are those of the
+/// process's record.
 pub const fn calls_keep_sound()
     ensures calls { (r : Records) (words : WordMap) (slot trap : ℕ) (head : HeadRec) (process : ProcRec) (bank : Bank) → AreSound r → r.head ≡ Some head → IsIn r slot process
         → process.state ≡ 1 → length process.descs ≡ 8 → KeepsSound r slot process (planned_call r words slot trap head process bank) }
