@@ -1,5 +1,5 @@
 -- Where pages are only prepared, records are as sound as they were but for their tables, and stand for the same state.
-use Rattle.std.proofs.Common.{◌≡◌, ◌∙◌, ◌==◌, ◌&&◌, ℕ, true, if◌then◌else◌, List, [], ◌∷◌, Option, Some, None, is_some, inl, inr, refl, sym, ap, subst, arith}
+use Rattle.std.proofs.Common.{◌≡◌, ◌∙◌, ◌==◌, ◌&&◌, ◌+◌, ◌<◌, ℕ, true, if◌then◌else◌, List, [], ◌∷◌, Option, Some, None, is_some, inl, inr, refl, sym, ap, subst, arith}
 use Rattle.std.proofs.lemmas.Bool.{cases_eq}
 use Rattle.std.proofs.lemmas.Bool.Decides.{nat_tests}
 use Rattle.ow_base.specs.Sv32.{WordMap}
@@ -14,7 +14,7 @@ use Rattle.record_layouts.specs.declared.proc.ProcRec.{ProcRec}
 use Rattle.record_layouts.specs.declared.sig.SigRec.{SigRec}
 use Rattle.record_layouts.specs.Decode.{Context, InKernel, InUser, decodes, ended_of, handlers_of, is_number, is_pending, last_by, pid_in, position_by, process_at, process_by, process_in, process_of, processes_of, slot_by, unix_of, with_bank}
 use Rattle.record_layouts.specs.Held.{AreComplete, AreValues, Held, Records, with_items, with_record}
-use Rattle.record_layouts.specs.Pages.{is_linked, is_mapped, low_place, high_place, region_of, frame_of, table_frame}
+use Rattle.record_layouts.specs.Pages.{is_linked, is_live, is_mapped, low_place, high_place, region_of, frame_of, table_frame}
 use Rattle.record_layouts.specs.Sound.{AreInCalls, AreInWrites, AreNumbered, AreOnTerminals, AreSound, HaveFrames, IsIn, IsInCall, IsTransfer}
 use Rattle.record_layouts.specs.Unix.State.{Process}
 use Rattle.ow_base.specs.Entries.{pointer_word}
@@ -206,7 +206,7 @@ module _ {Rest : Type 0} (slot : ℕ) (h new : Held Rest) (only : OnlyPrepares s
     decodes_same : (pid : ℕ) → decodes new.records place pid process ≡ decodes h.records place pid process
     decodes_same pid =
         let mapped : is_mapped new.records place process ≡ is_mapped h.records place process = mapped_now ∙ sym (sound.mapped.mapped place process is) in
-        rw (head_same, mapped) refl
+        λ i. is_some (head_same i) && is_live process && process.pid == pid && mapped i
 
     process_same : process_of new.records new.contents place process ≡ process_of h.records h.contents place process
     unfolding process_of
