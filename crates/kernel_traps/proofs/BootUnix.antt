@@ -248,7 +248,7 @@ module _ (r : Records) (words : WordMap) (load : Load) (is : IsBootable load) (b
     ended = λ pid. ended_none (processes_of r words InKernel) pid i;
     descriptions = λ number. (ap (λ processes. in_use processes (λ n. description_by (r.descs n)) number) processes_same ∙ description_same number) i;
     files = λ _. None;
-    room = r.map.user_frames;
+    room = booted.user_frames i;
     terminals = λ tty. terminal_same tapes silent tty i;
     exits = λ pid. status_none pid i;
     next_pid = ap next_by (booted.records id.Head tt) i;

@@ -4,6 +4,7 @@ use Rattle.ow_base.specs.Pages.{Pages, bytes_at}
 use Rattle.phys_memory.specs.Memory.{words_of}
 use Rattle.record_layouts.specs.declared.places.RecordId.TheVariants as id
 use Rattle.record_layouts.specs.declared.head.HeadRec.{HeadRec}
+use Rattle.record_layouts.specs.declared.proc.ProcRec.{ProcRec}
 use Rattle.record_layouts.specs.declared.term.TermRec.{TermRec}
 use Rattle.record_layouts.specs.declared.row.RowRec.{RowRec}
 use Rattle.record_layouts.specs.declared.intent.Gate.TheVariants.{Closed}
@@ -13,8 +14,9 @@ use Rattle.record_layouts.specs.Row.{FitsRow}
 use Rattle.record_layouts.specs.Sound.{AreInWrites, AreOnTerminals, AreSound}
 use Rattle.record_layouts.specs.Term.{FitsTerm}
 use Rattle.record_layouts.specs.Values.{are_values}
+use Rattle.address_space.specs.Spaces.{IsGrown, OnlyPrepares}
 use Rattle.process_table.proofs.Descriptors.{on_terminals_stay}
-use Rattle.syscalls.specs.Planned.{Planned, PlanOnce, PlanWrite}
+use Rattle.syscalls.specs.Planned.{Planned, PlanGrow, PlanOnce, PlanWrite}
 use Rattle.ow_plant.specs.State.{PlantState, left_trap, risen, tty_of, Device}
 use Rattle.intent_store.specs.Live.{IsStanding, gate_held, held_of, map_of, records_held, rest_of}
 use Rattle.kernel_traps.specs.Plants.{AreTerminalsSound, IsInTrap, IsOfDevice, IsSound}
@@ -23,6 +25,7 @@ use Rattle.kernel_traps.specs.Carrying.{HasRoomFor, IsCarriedOut, bytes_of}
 use Rattle.kernel_traps.specs.Ending.{EndsTrap, HasStep}
 use Rattle.kernel_traps.proofs.Puts.{puts_beside}
 use Rattle.kernel_traps.proofs.OfProcesses.{items_beside, same_rows, same_terms, shown_by}
+use Rattle.kernel_traps.proofs.Preparing.{grown_as, items_prepared, prepared_by, prepared_terminals, prepared_writes, prepares_as}
 use Rattle.kernel_traps.proofs.ShownSound.{drawn_rows, drawn_terms, on_terminals_too, shown_sound, writes_too}
 use Rattle.kernel_traps.proofs.Terminals.{few_bytes, of_device-same, of_devices}
 
@@ -30,6 +33,7 @@ use Rattle.kernel_traps.proofs.Terminals.{few_bytes, of_device-same, of_devices}
 abbrev pub IsShort : Planned → Type 0
 IsShort (PlanOnce items) = Unit {0}
 IsShort (PlanWrite tty from len items) = (tty < 2) × (len ≤ 16)
+IsShort (PlanGrow count items) = Unit {0}
 
 pub length-bytes_at : (pages : Pages) (address count : ℕ) → length (bytes_at pages address count) ≡ count
 unfolding bytes_at
@@ -85,10 +89,24 @@ between_sound r put tty bytes sound drawn terms rows = shown_sound r put.terms p
   rows_fit = rows;
 })
 
+-- the terminals where neither their records nor the plant beside its words changed
+pub terminals_kept : (s new : PlantState) (steps : ℕ) → IsInTrap s steps → rest_of new ≡ rest_of s
+    → (records_held new).terms ≡ (records_held s).terms → (records_held new).rows ≡ (records_held s).rows → AreTerminalsSound new s.steps
+terminals_kept s new steps trap rest terms rows =
+    let r = records_held s in
+    record {
+      records = λ tty low. subst (λ (p : PlantState). IfSome ((records_held new).terms tty) (IsOfDevice (records_held new) tty (tty_of p tty))) (sym rest)
+          (of_device-same r (records_held new) tty (tty_of s tty) (ap (λ (f : ℕ → Option TermRec). f tty) terms)
+          (λ index within. ap (λ (f : ℕ → Option RowRec). f index) rows) (trap.terminals.records tty low));
+      bytes = λ tty low.
+          let was = trap.terminals.bytes tty low in
+          subst (λ (p : PlantState). length (tty_of p tty).tape ≤ 16 * s.steps) (sym rest) (omega (arith, was, trap.counted));
+    }
+
 -- records that are set at once
-once_kept : (s new : PlantState) (steps : ℕ) (items : List PatchItem) → IsInTrap s steps → EndsTrap (records_held s) s.traps (PlanOnce items)
+once_kept : (s new : PlantState) (steps slot : ℕ) (items : List PatchItem) → IsInTrap s steps → EndsTrap (records_held s) slot s.traps (PlanOnce items)
     → held_of new ≡ patched items (held_of s) → IsKept s new
-once_kept s new steps items trap ends is =
+once_kept s new steps slot items trap ends is =
     let r = records_held s in
     let records : records_held new ≡ with_items r items = ap (λ (h : Held PlantState). h.records) is in
     let rest : rest_of new ≡ rest_of s = ap (λ (h : Held PlantState). h.rest) is in
@@ -101,14 +119,7 @@ once_kept s new steps items trap ends is =
       records = subst AreSound (sym records) ends.keeps_sound;
       on_terminals = subst AreOnTerminals (sym records) (on_terminals_stay r items ends.keeps_descriptors trap.held.on_terminals);
       in_writes = subst AreInWrites (sym records) ends.in_writes;
-      terminals = record {
-        records = λ tty low. subst (λ (p : PlantState). IfSome ((records_held new).terms tty) (IsOfDevice (records_held new) tty (tty_of p tty))) (sym rest)
-            (of_device-same r (records_held new) tty (tty_of s tty) (ap (λ (f : ℕ → Option TermRec). f tty) terms)
-            (λ index within. ap (λ (f : ℕ → Option RowRec). f index) rows) (trap.terminals.records tty low));
-        bytes = λ tty low.
-            let was = trap.terminals.bytes tty low in
-            subst (λ (p : PlantState). length (tty_of p tty).tape ≤ 16 * s.steps) (sym rest) (omega (arith, was, trap.counted));
-      };
+      terminals = terminals_kept s new steps trap rest terms rows;
       head = ends.head;
       is_head = ap (λ (q : Records). q.head) records ∙ ends.is_head;
       served = ends.served;
@@ -131,10 +142,10 @@ write_terminals s new steps tty bytes put trap most step low short drawn rest te
     }
 
 -- records that are set behind bytes
-write_kept : (s new : PlantState) (steps tty from len : ℕ) (bytes : List ℕ) (items : List PatchItem) (put : Held PlantState)
-    → IsInTrap s steps → s.shape.budget ≤ 2000000 → steps < s.steps → EndsTrap (records_held s) s.traps (PlanWrite tty from len items) → tty < 2 → length bytes ≤ 16
+write_kept : (s new : PlantState) (steps slot tty from len : ℕ) (bytes : List ℕ) (items : List PatchItem) (put : Held PlantState)
+    → IsInTrap s steps → s.shape.budget ≤ 2000000 → steps < s.steps → EndsTrap (records_held s) slot s.traps (PlanWrite tty from len items) → tty < 2 → length bytes ≤ 16
     → IsPut (held_of s) tty bytes bytes put → held_of new ≡ patched items put → IsKept s new
-write_kept s new steps tty from len bytes items put trap most step ends low short is last =
+write_kept s new steps slot tty from len bytes items put trap most step ends low short is last =
     let r = records_held s in
     let of = ends.of_processes in
     let records : records_held new ≡ with_items put.records items = ap (λ (h : Held PlantState). h.records) last in
@@ -163,18 +174,51 @@ write_kept s new steps tty from len bytes items put trap most step ends low shor
       served = ends.served;
     }
 
+-- records that are set behind pages that were prepared
+grow_kept : (s new : PlantState) (steps slot count : ℕ) (items : List PatchItem) (prepared : Held PlantState)
+    → IsInTrap s steps → EndsTrap (records_held s) slot s.traps (PlanGrow count items) → OnlyPrepares slot (held_of s) prepared
+    → IfSome ((records_held s).procs slot) (IsGrown (held_of s) prepared slot count) → held_of new ≡ patched items prepared → IsKept s new
+grow_kept s new steps slot count items prepared trap ends only grown last =
+    let r = records_held s in
+    let of = ends.of_processes in
+    let owners = prepared.records.owners in
+    let tables = prepared.records.table_words in
+    let its = subst (λ (held : Option ProcRec). IfSome held (IsGrown (held_of s) prepared slot count)) ends.there grown in
+    let rest : rest_of new ≡ rest_of s = ap (λ (h : Held PlantState). h.rest) last ∙ only.rest in
+    let records : records_held new ≡ with_items prepared.records items = ap (λ (h : Held PlantState). h.records) last in
+    let beside : records_held new ≡ prepared_by (with_items r items) owners tables =
+    records ∙ (ap (λ (q : Records). with_items q items) only.records ∙ items_prepared r owners tables items) in
+    let terms : (records_held new).terms ≡ r.terms = ap (λ (q : Records). q.terms) beside ∙ same_terms r items of in
+    let rows : (records_held new).rows ≡ r.rows = ap (λ (q : Records). q.rows) beside ∙ same_rows r items of in
+    let sound : AreSound (with_items prepared.records items) = ends.keeps_sound (held_of s).contents prepared.contents prepared.records
+    (prepares_as slot (held_of s) prepared only) (grown_as slot (held_of s) prepared count ends.process its) in
+    record {
+      tty0 = s.tty0;
+      tty1 = s.tty1;
+      rest = rest;
+      records = subst AreSound (sym records) sound;
+      on_terminals = subst AreOnTerminals (sym beside) (prepared_terminals (with_items r items) owners tables (on_terminals_stay r items ends.keeps_descriptors trap.held.on_terminals));
+      in_writes = subst AreInWrites (sym beside) (prepared_writes (with_items r items) owners tables ends.in_writes);
+      terminals = terminals_kept s new steps trap rest terms rows;
+      head = ends.head;
+      is_head = ap (λ (q : Records). q.head) beside ∙ ends.is_head;
+      served = ends.served;
+    }
+
 -- a service is carried out
-pub kept : (s new : PlantState) (steps slot : ℕ) (plan : Planned) → IsInTrap s steps → s.shape.budget ≤ 2000000 → HasStep plan steps s.steps → EndsTrap (records_held s) s.traps plan → IsShort plan
+pub kept : (s new : PlantState) (steps slot : ℕ) (plan : Planned) → IsInTrap s steps → s.shape.budget ≤ 2000000 → HasStep plan steps s.steps → EndsTrap (records_held s) slot s.traps plan → IsShort plan
     → IsCarriedOut s slot plan (held_of new) → IsKept s new
-kept s new steps slot (PlanOnce items) trap most step ends short is = once_kept s new steps items trap ends is
+kept s new steps slot (PlanOnce items) trap most step ends short is = once_kept s new steps slot items trap ends is
 kept s new steps slot (PlanWrite tty from len items) trap most step ends (low, short) (put, is, last) =
     let bytes = bytes_of s slot from len in
     let long : length bytes ≡ len = length-bytes_at _ from len in
-    write_kept s new steps tty from len bytes items put trap most step ends low (omega (arith, long, short)) is last
+    write_kept s new steps slot tty from len bytes items put trap most step ends low (omega (arith, long, short)) is last
+kept s new steps slot (PlanGrow count items) trap most step ends short (prepared, only, grown, last) =
+    grow_kept s new steps slot count items prepared trap ends only grown last
 
 -- and the trap is left
 pub carried_sound : (s new : PlantState) (steps slot : ℕ) (plan : Planned) → IsInTrap s steps → s.shape.budget ≤ 2000000 → HasStep plan steps s.steps
-    → EndsTrap (records_held s) s.traps plan → IsShort plan → IsCarriedOut s slot plan (held_of new)
+    → EndsTrap (records_held s) slot s.traps plan → IsShort plan → IsCarriedOut s slot plan (held_of new)
     → new.refusal ≡ None → gate_held new ≡ Closed → IsStanding new → IsSound (left_trap new)
 carried_sound s new steps slot plan trap most step ends short is able shut stands =
     left_sound s new steps trap (kept s new steps slot plan trap most step ends short is) stands able shut
@@ -185,3 +229,4 @@ pub has_room : (s : PlantState) (steps : ℕ) (plan : Planned) → IsInTrap s st
 has_room s steps (PlanOnce items) trap step room = tt
 has_room s steps (PlanWrite tty from len items) trap step room =
     record { each = λ tty low. omega (arith, trap.terminals.bytes tty low, room tty low, step, trap.budget) }
+has_room s steps (PlanGrow count items) trap step room = tt

@@ -2,20 +2,25 @@
 use Rattle.std.proofs.Common.{◌≡◌, ◌≢◌, ◌∙◌, ◌+◌, ◌^◌, ◌<◌, ℕ, zero, suc, List, [], ◌∷◌, ◌++◌, length, Option, Some, None, IfSome, refl, sym, ap, subst, arith, length-append}
 use Rattle.std.proofs.lemmas.Bool.Decides.{nat_tests}
 use Rattle.std.proofs.lemmas.Grind.{common_steps}
-use Rattle.ow_base.specs.Pages.{bytes_at}
+use Rattle.ow_base.specs.Sv32.{WordMap}
+use Rattle.ow_base.specs.Pages.{Pages, bytes_at}
 use Rattle.phys_memory.specs.Memory.{words_of}
 use Rattle.record_layouts.specs.declared.term.TermRec.{TermRec}
 use Rattle.record_layouts.specs.declared.proc.ProcRec.{ProcRec}
 use Rattle.record_layouts.specs.declared.patch.PatchItem.{PatchItem}
 use Rattle.record_layouts.specs.Held.{Held}
 use Rattle.record_layouts.specs.Decode.{tape_by}
-use Rattle.syscalls.specs.Done.{AreCounted as IsTold, AreCountedBy, AreWritten, IsDone}
-use Rattle.syscalls.specs.Planned.{PlanWrite, pages_if}
+use Rattle.record_layouts.specs.Pages.{pages_of}
+use Rattle.address_space.specs.Spaces.{IsGrown, OnlyPrepares}
+use Rattle.syscalls.specs.Done.{AreCounted as IsTold, AreCountedBy, AreWritten, IsDone, held_as}
+use Rattle.syscalls.specs.Planned.{PlanGrow, PlanWrite, pages_if}
 use Rattle.ow_plant.specs.State.{PlantState, risen}
 use Rattle.intent_store.specs.Live.{held_of, records_held, rest_of}
 use Rattle.ow_plant.specs.Images.{tapes_of}
 use Rattle.kernel_traps.specs.Putting.{AreCounted, CountsBytes, counted_after, with_puts}
 use Rattle.kernel_traps.specs.Carrying.{IsCarriedOut, bytes_of}
+use Rattle.kernel_traps.proofs.Preparing.{grown_as, prepares_as}
+use Rattle.kernel_traps.proofs.Stays.{contents_of, pages_beside}
 
 pub own_tape : (s : PlantState) (tty : ℕ) (bytes : List ℕ) → tty < 2 → tapes_of (with_puts s tty bytes) tty ≡ tapes_of s tty ++ bytes
 own_tape s zero bytes low = refl
@@ -59,7 +64,7 @@ pub done : (s t : PlantState) (slot tty from len : ℕ) (items : List PatchItem)
     → IfSome ((records_held s).terms tty) (λ terminal. terminal.written ≡ length (tapes_of s tty))
     → length (tapes_of s tty) + length (bytes_of s slot from len) < 2 ^ 32
     → IsCarriedOut s slot (PlanWrite tty from len items) (held_of t)
-    → IsDone (records_held s) (words_of s.memory) (tapes_of s) slot process (PlanWrite tty from len items) (records_held t) (tapes_of t)
+    → IsDone (records_held s) (contents_of s) (tapes_of s) slot process (PlanWrite tty from len items) (records_held t) (contents_of t) (tapes_of t)
 done s t slot tty from len items process there low counted small (put, is, last) =
     let r = records_held s in
     let words = words_of s.memory in
@@ -76,4 +81,27 @@ done s t slot tty from len items process there low counted small (put, is, last)
       counted = subst (λ (tape : List ℕ). AreCountedBy bytes (tapes_of s tty) tape (r.terms tty) (put.records.terms tty)) (sym own)
           (told_by bytes (tapes_of s tty) (r.terms tty) (put.records.terms tty) counted small is.drawn.counted);
     } in
-    (put.records, subst (λ (held : Option ProcRec). AreWritten r (tapes_of s) tty (bytes_at (pages_if r words slot held) from len) put.records (tapes_of t)) there written, ap (λ (h : Held PlantState). h.records) last)
+    let of_pages : AreWritten r (tapes_of s) tty (bytes_at (pages_of r words slot process) from len) put.records (tapes_of t) =
+    subst (λ (held : Option ProcRec). AreWritten r (tapes_of s) tty (bytes_at (pages_if r words slot held) from len) put.records (tapes_of t)) there written in
+    (
+      put.records,
+      subst (λ (pages : Pages). AreWritten r (tapes_of s) tty (bytes_at pages from len) put.records (tapes_of t)) (pages_beside s slot process) of_pages,
+      ap (λ (h : Held PlantState). h.records) last,
+      ap (λ (h : Held PlantState). h.contents) last ∙ ap (λ (h : Held PlantState). h.contents) is.rest,
+    )
+
+-- and of pages that were prepared
+pub grow_done : (s t : PlantState) (slot count : ℕ) (items : List PatchItem) (process : ProcRec) → (records_held s).procs slot ≡ Some process
+    → IsCarriedOut s slot (PlanGrow count items) (held_of t)
+    → IsDone (records_held s) (contents_of s) (tapes_of s) slot process (PlanGrow count items) (records_held t) (contents_of t) (tapes_of t)
+grow_done s t slot count items process there (prepared, only, grown, last) =
+    let its = subst (λ (held : Option ProcRec). IfSome held (IsGrown (held_of s) prepared slot count)) there grown in
+    let words : contents_of t ≡ prepared.contents = ap (λ (h : Held PlantState). h.contents) last in
+    (
+      prepared.records,
+      subst (λ (w : WordMap). OnlyPrepares slot (held_as (records_held s) (contents_of s)) (held_as prepared.records w)) (sym words) (prepares_as slot (held_of s) prepared only),
+      subst (λ (w : WordMap). IsGrown (held_as (records_held s) (contents_of s)) (held_as prepared.records w) slot count process) (sym words)
+          (grown_as slot (held_of s) prepared count process its),
+      ap (λ (h : Held PlantState). h.records) last,
+      ap (λ (h : Held PlantState). tapes_of h.rest) last ∙ ap (λ (p : PlantState). tapes_of p) only.rest,
+    )

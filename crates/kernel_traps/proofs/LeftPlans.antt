@@ -1,5 +1,5 @@
 -- What the plan of a trap writes is short: at most 16 bytes, on a terminal that there is.
-use Rattle.std.proofs.Common.{◌≡◌, ◌==◌, ◌+◌, ◌-◌, ◌<◌, ℕ, nat_lt, false, List, slice_get, Option, Some, None, IfSome, inl, inr, arith}
+use Rattle.std.proofs.Common.{◌≡◌, ◌==◌, ◌||◌, ◌+◌, ◌-◌, ◌<◌, ℕ, nat_lt, false, List, slice_get, Option, Some, None, IfSome, inl, inr, arith}
 use Rattle.std.proofs.lemmas.Bool.{cases_Bool}
 use Rattle.std.proofs.lemmas.Bool.Decides.{nat_tests}
 use Rattle.ow_base.specs.Pages.{Pages, is_readable}
@@ -16,7 +16,8 @@ use Rattle.record_layouts.specs.Pages.{pages_of}
 use Rattle.record_layouts.specs.Unix.Calls.{tty_piece}
 use Rattle.ow_base.specs.UserStep.{register}
 use Rattle.process_table.specs.Patches.{saved_process}
-use Rattle.syscalls.specs.Planned.{argument_of, caller_with, if_open, is_written, named, named_by, planned_call, planned_further, planned_number, planned_of_call, planned_on, planned_piece, planned_tty, planned_write, planned_write_on}
+use Rattle.frame_table.specs.Free.{free_before}
+use Rattle.syscalls.specs.Planned.{argument_of, break_of, caller_with, if_open, is_written, named, named_by, pages_more, planned_call, planned_further, planned_number, planned_of_call, planned_on, planned_piece, planned_sbrk, planned_tty, planned_write, planned_write_on}
 use Rattle.ow_plant.specs.State.{PlantState, now_of}
 use Rattle.intent_store.specs.Live.{records_held}
 use Rattle.kernel_traps.specs.Traps.{plan_for}
@@ -72,6 +73,13 @@ module _ (r : Records) (values : AreValues r) (pages : Pages) (slot trap : ℕ) 
     ]
   ]
 
+  sbrk_short : IsShort (planned_sbrk r (caller_with slot trap head process))
+  unfolding planned_sbrk
+  sbrk_short = elim (cases_Bool (nat_lt 0x400000 (break_of process + argument_of process 0) || nat_lt (free_before r r.map.user_frames) (pages_more process (argument_of process 0)))) [
+    | inl none ↦ rw none tt
+    | inr some ↦ rw some tt
+  ]
+
   number_short : (number : ℕ) → IsShort (planned_number r pages (caller_with slot trap head process) number)
   unfolding planned_number planned_write
   number_short number = elim (cases_Bool (number == 1)) [
@@ -80,9 +88,12 @@ module _ (r : Records) (values : AreValues r) (pages : Pages) (slot trap : ℕ) 
       | inl writes ↦ rw (no_exit, writes) (write_short (named r process.descs (argument_of process 0)) (named_fits r values process.descs (argument_of process 0)))
       | inr no_write ↦ elim (cases_Bool (number == 7)) [
         | inl asks ↦ rw (no_exit, no_write, asks) tt
-        | inr no_pid ↦ elim (cases_Bool (number == 18)) [
-          | inl yields ↦ rw (no_exit, no_write, no_pid, yields) tt
-          | inr none ↦ rw (no_exit, no_write, no_pid, none) tt
+        | inr no_pid ↦ elim (cases_Bool (number == 8)) [
+          | inl grows ↦ rw (no_exit, no_write, no_pid, grows) sbrk_short
+          | inr no_heap ↦ elim (cases_Bool (number == 18)) [
+            | inl yields ↦ rw (no_exit, no_write, no_pid, no_heap, yields) tt
+            | inr none ↦ rw (no_exit, no_write, no_pid, no_heap, none) tt
+          ]
         ]
       ]
     ]

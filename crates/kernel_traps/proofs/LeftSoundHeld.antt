@@ -2,6 +2,7 @@
 -- but for a last byte that is not out.
 use Rattle.std.proofs.Common.{◌≡◌, ◌∙◌, ◌+◌, ◌^◌, ◌<◌, ◌≤◌, ℕ, List, length, take, Option, Some, None, IfSome, inl, inr, refl, sym, ap, subst, arith}
 use Rattle.std.proofs.lemmas.List.{length-take}
+use Rattle.address_space.specs.Spaces.{OnlyPrepares}
 use Rattle.phys_memory.specs.Memory.{words_of}
 use Rattle.record_layouts.specs.declared.head.HeadRec.{HeadRec}
 use Rattle.record_layouts.specs.declared.places.RecordId.TheVariants as id
@@ -10,7 +11,7 @@ use Rattle.record_layouts.specs.Held.{AreValues, Held, Records}
 use Rattle.record_layouts.specs.Sound.{AreInWrites, AreOnTerminals, AreSound}
 use Rattle.record_layouts.specs.SoundImages.{AreOfTapes, IsServedBefore}
 use Rattle.record_layouts.specs.Values.{are_values}
-use Rattle.syscalls.specs.Planned.{Planned, PlanOnce, PlanWrite}
+use Rattle.syscalls.specs.Planned.{Planned, PlanGrow, PlanOnce, PlanWrite}
 use Rattle.ow_plant.specs.Images.{AreFronts, tapes_of}
 use Rattle.ow_plant.specs.State.{PlantState, tty_of, Device}
 use Rattle.intent_store.specs.Live.{held_of, map_of, records_held, rest_of}
@@ -18,9 +19,10 @@ use Rattle.kernel_traps.specs.Carrying.{IsCarriedOut, MayBeLeft, bytes_of}
 use Rattle.kernel_traps.specs.Ending.{EndsTrap, HasStep, MayBeLeftOfPlan}
 use Rattle.kernel_traps.specs.Plants.{IsInTrap}
 use Rattle.kernel_traps.specs.Putting.{IsPut, with_puts}
-use Rattle.kernel_traps.proofs.Carried.{IsKept, IsShort, kept, length-bytes_at}
+use Rattle.kernel_traps.proofs.Carried.{IsKept, IsShort, kept, length-bytes_at, terminals_kept}
 use Rattle.kernel_traps.proofs.LeftSoundTapes.{AreOutByOne, devices_decoded, fronts_put, fronts_same, out_by_one, puts_decoded, tapes_decoded}
 use Rattle.kernel_traps.proofs.OfProcesses.{shown_by}
+use Rattle.kernel_traps.proofs.Preparing.{AreSoundLeft, prepared_left_sound, prepared_terminals, prepared_writes, sound_left}
 use Rattle.kernel_traps.proofs.Puts.{puts_beside}
 use Rattle.kernel_traps.proofs.ShownSound.{AreShown, drawn_rows, drawn_terms, on_terminals_too, shown_sound, writes_too}
 use Rattle.kernel_traps.proofs.Terminals.{few_bytes, of_devices}
@@ -31,7 +33,7 @@ pub record IsHeldLeft (old new : Held PlantState) : Type 0 where
   pub tty1 : Device
   pub rest : new.rest ≡ record old.rest { tty0 = tty0; tty1 = tty1 }
   pub fronts : AreFronts old.rest new.rest
-  pub records : AreSound new.records
+  pub records : AreSoundLeft new.records
   pub on_terminals : AreOnTerminals new.records
   pub in_writes : AreInWrites new.records
   pub served : IsServedBefore new.records (old.rest.traps + 1)
@@ -48,13 +50,33 @@ left_none s steps trap = record {
   tty1 = s.tty1;
   rest = refl;
   fronts = fronts_same (rest_of s);
-  records = trap.held.records;
+  records = sound_left (records_held s) trap.held.records;
   on_terminals = trap.held.on_terminals;
   in_writes = trap.held.in_writes;
   served = served_too (records_held s).head s.traps trap.served;
   terminals = tapes_decoded (rest_of s) (records_held s) (λ tty. (tty_of s tty).tape) s.steps (devices_decoded (rest_of s) (records_held s) trap.terminals.records)
       (λ tty low. let few = trap.terminals.bytes tty low in omega (arith, few, trap.counted));
 }
+
+-- pages are prepared, which no record counts
+left_prepared : (s new : PlantState) (steps slot : ℕ) → IsInTrap s steps → OnlyPrepares slot (held_of s) (held_of new) → IsHeldLeft (held_of s) (held_of new)
+left_prepared s new steps slot trap only =
+    let r = records_held s in
+    let owners = (records_held new).owners in
+    let tables = (records_held new).table_words in
+    let still = terminals_kept s new steps trap only.rest (ap (λ (q : Records). q.terms) only.records) (ap (λ (q : Records). q.rows) only.records) in
+    record {
+      tty0 = s.tty0;
+      tty1 = s.tty1;
+      rest = only.rest;
+      fronts = subst (λ (p : PlantState). AreFronts (rest_of s) p) (sym only.rest) (fronts_same (rest_of s));
+      records = prepared_left_sound slot (held_of s) (held_of new) only trap.held.records;
+      on_terminals = subst AreOnTerminals (sym only.records) (prepared_terminals r owners tables trap.held.on_terminals);
+      in_writes = subst AreInWrites (sym only.records) (prepared_writes r owners tables trap.held.in_writes);
+      served = subst (λ (held : Option HeadRec). IfSome held (λ head. head.served < s.traps + 1)) (sym (ap (λ (q : Records). q.head) only.records)) (served_too r.head s.traps trap.served);
+      terminals = tapes_decoded (rest_of new) (records_held new) (λ tty. (tty_of new tty).tape) s.steps
+          (devices_decoded (rest_of new) (records_held new) still.records) still.bytes;
+    }
 
 -- all was done
 carried_fronts : (s new : PlantState) (slot : ℕ) (plan : Planned) → IsCarriedOut s slot plan (held_of new) → AreFronts (rest_of s) (rest_of new)
@@ -64,6 +86,8 @@ carried_fronts s new slot (PlanWrite tty from len items) (put, is, last) =
     let rest : rest_of new ≡ with_puts (rest_of s) tty (bytes_of s slot from len) =
     ap (λ (h : Held PlantState). h.rest) last ∙ ap (λ (h : Held PlantState). h.rest) is.rest in
     subst (λ (p : PlantState). AreFronts (rest_of s) p) (sym rest) (fronts_put (rest_of s) tty (bytes_of s slot from len))
+carried_fronts s new slot (PlanGrow count items) (prepared, only, grown, last) =
+    subst (λ (p : PlantState). AreFronts (rest_of s) p) (sym (ap (λ (h : Held PlantState). h.rest) last ∙ only.rest)) (fronts_same (rest_of s))
 
 left_kept : (s new : PlantState) → IsKept s new → AreFronts (rest_of s) (rest_of new) → IsHeldLeft (held_of s) (held_of new)
 left_kept s new all fronts = record {
@@ -71,7 +95,7 @@ left_kept s new all fronts = record {
   tty1 = all.tty1;
   rest = all.rest;
   fronts = fronts;
-  records = all.records;
+  records = sound_left (records_held new) all.records;
   on_terminals = all.on_terminals;
   in_writes = all.in_writes;
   served = subst (λ (held : Option HeadRec). IfSome held (λ head. head.served < s.traps + 1)) (sym all.is_head) (omega (arith, all.served));
@@ -120,7 +144,7 @@ module _ (s new : PlantState) (steps tty : ℕ) (counted out : List ℕ) (trap :
     tty1 = (with_puts (rest_of s) tty out).tty1;
     rest = put_rest ∙ puts_beside (rest_of s) tty out;
     fronts = subst (λ (p : PlantState). AreFronts (rest_of s) p) (sym put_rest) (fronts_put (rest_of s) tty out);
-    records = subst AreSound (sym put_records) (shown_sound before after.terms after.rows trap.held.records put_shown);
+    records = sound_left after (subst AreSound (sym put_records) (shown_sound before after.terms after.rows trap.held.records put_shown));
     on_terminals = subst AreOnTerminals (sym put_records) (on_terminals_too before after.terms after.rows trap.held.on_terminals);
     in_writes = subst AreInWrites (sym put_records) (writes_too before after.terms after.rows trap.held.in_writes);
     served = subst (λ (held : Option HeadRec). IfSome held (λ head. head.served < s.traps + 1)) (sym (ap (λ (q : Records). q.head) put_records))
@@ -130,11 +154,11 @@ module _ (s new : PlantState) (steps tty : ℕ) (counted out : List ℕ) (trap :
 
 -- a trap with its plan
 module _ (s new : PlantState) (steps slot : ℕ) (trap : IsInTrap s steps) (most : s.shape.budget ≤ 2000000) where
-  left_carried : (plan : Planned) → HasStep plan steps s.steps → EndsTrap (records_held s) s.traps plan → IsShort plan → IsCarriedOut s slot plan (held_of new)
+  left_carried : (plan : Planned) → HasStep plan steps s.steps → EndsTrap (records_held s) slot s.traps plan → IsShort plan → IsCarriedOut s slot plan (held_of new)
       → IsHeldLeft (held_of s) (held_of new)
   left_carried plan step ends short is = left_kept s new (kept s new steps slot plan trap most step ends short is) (carried_fronts s new slot plan is)
 
-  left_partly : (plan : Planned) → HasStep plan steps s.steps → EndsTrap (records_held s) s.traps plan → IsShort plan → MayBeLeft s slot plan (held_of new)
+  left_partly : (plan : Planned) → HasStep plan steps s.steps → EndsTrap (records_held s) slot s.traps plan → IsShort plan → MayBeLeft s slot plan (held_of new)
       → IsHeldLeft (held_of s) (held_of new)
   left_partly (PlanOnce items) step ends short (inl same) = subst (λ (h : Held PlantState). IsHeldLeft (held_of s) h) (sym same) (left_none s steps trap)
   left_partly (PlanOnce items) step ends short (inr set) = left_carried (PlanOnce items) step ends short set
@@ -152,8 +176,10 @@ module _ (s new : PlantState) (steps slot : ℕ) (trap : IsInTrap s steps) (most
       let long : length bytes ≡ len = length-bytes_at _ from len in
       left_put s new steps tty bytes bytes trap most step low (omega (arith, long, few)) (inl refl) put
   left_partly (PlanWrite tty from len items) step ends short (inr (inr written)) = left_carried (PlanWrite tty from len items) step ends short written
+  left_partly (PlanGrow count items) step ends short (inl only) = left_prepared s new steps slot trap only
+  left_partly (PlanGrow count items) step ends short (inr grown) = left_carried (PlanGrow count items) step ends short grown
 
-  pub left_of_plan : (plan : Planned) → HasStep plan steps s.steps → EndsTrap (records_held s) s.traps plan → IsShort plan → MayBeLeftOfPlan s slot plan new
+  pub left_of_plan : (plan : Planned) → HasStep plan steps s.steps → EndsTrap (records_held s) slot s.traps plan → IsShort plan → MayBeLeftOfPlan s slot plan new
       → IsHeldLeft (held_of s) (held_of new)
   left_of_plan plan step ends short (inl (refused, left)) = left_partly plan step ends short left
   left_of_plan plan step ends short (inr (refused, all)) = left_carried plan step ends short all

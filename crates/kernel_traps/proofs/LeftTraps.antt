@@ -3,6 +3,8 @@ use Rattle.std.proofs.Common.{◌≡◌, ◌∙◌, ◌==◌, ◌+◌, ◌^◌, 
 use Rattle.std.proofs.lemmas.Bool.{cases_Bool}
 use Rattle.std.proofs.lemmas.Bool.Decides.{nat_tests}
 use Rattle.dead_reader.specs.Left.{told_by}
+use Rattle.address_space.specs.Spaces.{OnlyPrepares}
+use Rattle.ow_base.specs.Sv32.{WordMap}
 use Rattle.phys_memory.specs.Memory.{words_of}
 use Rattle.record_layouts.specs.declared.head.HeadRec.{HeadRec}
 use Rattle.record_layouts.specs.declared.proc.ProcRec.{ProcRec}
@@ -18,7 +20,7 @@ use Rattle.record_layouts.specs.Unix.Broken.{done_of, undone_of}
 use Rattle.record_layouts.specs.Unix.State.{Unix}
 use Rattle.record_layouts.specs.Unix.Traps.{after_trap, or_zero, pid_of, steps_in}
 use Rattle.syscalls.specs.Done.{IsDone}
-use Rattle.syscalls.specs.Planned.{Planned, PlanOnce, PlanWrite, pages_in}
+use Rattle.syscalls.specs.Planned.{Planned, PlanGrow, PlanOnce, PlanWrite, pages_in}
 use Rattle.ow_plant.specs.Images.{tapes_of}
 use Rattle.ow_plant.specs.State.{Device, PlantState, handed_over, tty_of}
 use Rattle.intent_store.specs.Live.{held_of, records_held, rest_of}
@@ -29,24 +31,25 @@ use Rattle.kernel_traps.specs.Putting.{AreCounted, IsPut}
 use Rattle.kernel_traps.specs.Traps.{IsDue, IsInMode, IsPlanOf, begun_by, user_before}
 use Rattle.kernel_traps.proofs.Carried.{IsKept, IsShort, kept}
 use Rattle.kernel_traps.proofs.Decoding.{pid_had}
-use Rattle.kernel_traps.proofs.Done.{done as write_done}
+use Rattle.kernel_traps.proofs.Done.{done as write_done, grow_done}
 use Rattle.kernel_traps.proofs.Entering.{MayTrap, begins, steps_begun, traps_begun}
 use Rattle.kernel_traps.proofs.LeftPlans.{plan_short}
 use Rattle.kernel_traps.proofs.LeftRecords.{IsContextBy, IsHandedOf, left_by, left_done, left_undone}
-use Rattle.kernel_traps.proofs.Stays.{room_held, unix_same}
+use Rattle.kernel_traps.proofs.Preparing.{prepared_unix}
+use Rattle.kernel_traps.proofs.Stays.{contents_of, unix_beside}
 use Rattle.kernel_traps.proofs.TrapKinds.{HasBegun, law, there_in, trap_begun, trap_ends}
-use Rattle.kernel_traps.proofs.TrapUnix.{IsCarrier, by_rest, carrier, length-bytes, same_device, told_by_device, words_still}
+use Rattle.kernel_traps.proofs.TrapUnix.{IsCarrier, by_rest, carrier, length-bytes, same_device, told_by_device}
 
--- Where only words of the area and terminals are others, the plant stands at a panic for what its records do with the words
--- of before, and the same is handed over.
+-- Where only words and terminals are others, the plant stands at a panic for what its records do with the words beside its
+-- area, and the same is handed over.
 pub left_at : (b new : PlantState) (tty0 tty1 : Device) → IsCarrier b new → rest_of new ≡ record (rest_of b) { tty0 = tty0; tty1 = tty1 }
-    → unix_left_at new ≡ left_by (told_by (handed_over b)) (records_held new) (words_of b.memory) (tapes_of new) b.steps b.traps
+    → unix_left_at new ≡ left_by (told_by (handed_over b)) (records_held new) (contents_of new) (tapes_of new) b.steps b.traps
 unfolding unix_left
 left_at b new tty0 tty1 is rest =
     let handed : handed_over new ≡ handed_over b = ap (λ (s : PlantState). handed_over s) rest in
     (λ i. left_by (told_by (handed i)) (records_held new) (words_of new.memory) (tapes_of new) (is.steps i) (is.traps i))
     ∙ ap (with_left (told_by (handed_over b)) (records_held new))
-    (unix_same (records_held new) (words_of new.memory) (words_of b.memory) (room_held new) (words_still b new is) (tapes_of new) InKernel b.steps b.traps)
+    (sym (unix_beside new (tapes_of new) InKernel b.steps b.traps))
 
 -- what is handed over of a trap that comes on a plant
 pid_handed : (held : Option ℕ) → IfSome held (λ pid. (1 ≤ pid) × (pid ≤ 256)) → (if nat_le (or_zero held) 256 then or_zero held else 0) ≡ or_zero held
@@ -115,10 +118,12 @@ told_on b steps tty trap low = told_by_device b tty ((records_held b).terms tty)
 
 -- what is done of the records once a plan is carried out
 plan_done : (b new : PlantState) (slot steps : ℕ) (process : ProcRec) (plan : Planned) → IsInTrap b steps → b.shape.budget ≤ 2000000 → (records_held b).procs slot ≡ Some process
-    → IsShort plan → IsCarriedOut b slot plan (held_of new) → IsDone (records_held b) (words_of b.memory) (tapes_of b) slot process plan (records_held new) (tapes_of new)
-plan_done b new slot steps process (PlanOnce items) trap most there short is = (ap (λ (h : Held PlantState). h.records) is, ap (λ (h : Held PlantState). tapes_of h.rest) is)
+    → IsShort plan → IsCarriedOut b slot plan (held_of new) → IsDone (records_held b) (contents_of b) (tapes_of b) slot process plan (records_held new) (contents_of new) (tapes_of new)
+plan_done b new slot steps process (PlanOnce items) trap most there short is =
+    (ap (λ (h : Held PlantState). h.records) is, ap (λ (h : Held PlantState). h.contents) is, ap (λ (h : Held PlantState). tapes_of h.rest) is)
 plan_done b new slot steps process (PlanWrite tty from len items) trap most there short is =
     write_done b new slot tty from len items process there short.0 (told_on b steps tty trap short.0) (small_by b steps slot tty from len trap most short.0 short.1) is
+plan_done b new slot steps process (PlanGrow count items) trap most there short is = grow_done b new slot count items process there is
 
 -- a trap that has begun on a plant, with its plan
 module _ (s : PlantState) (t : Trap) (may : MayTrap s t) (due : IsDue s t) (slot : ℕ) where
@@ -151,21 +156,34 @@ module _ (s : PlantState) (t : Trap) (may : MayTrap s t) (due : IsDue s t) (slot
   below head is_head = subst (λ (held : Option HeadRec). IfSome held (λ one. one.served < b.traps)) is_head in_trap.served
 
   -- nothing is done, by records with this head
-  pub undone_with : (r : Records) (tapes : ℕ → List ℕ) (head : HeadRec) → r.head ≡ Some head → (records_held b).head ≡ Some head
-      → left_by h r (words_of s.memory) tapes b.steps b.traps ≡ undone_of t (unix_of r (words_of s.memory) tapes (context_of s) s.steps s.traps)
-  undone_with r tapes head is_head was =
+  pub undone_with : (r : Records) (words : WordMap) (tapes : ℕ → List ℕ) (head : HeadRec) → r.head ≡ Some head → (records_held b).head ≡ Some head
+      → left_by h r words tapes b.steps b.traps ≡ undone_of t (unix_of r words tapes (context_of s) s.steps s.traps)
+  undone_with r words tapes head is_head was =
       let under = below head was in
       let undone : is_undone h (Some head) ≡ true = grind (arith, nat_tests, under) in
-      (λ i. left_by h r (words_of s.memory) tapes (steps_begun s t may i) (traps_begun s t may i))
-      ∙ left_undone r (words_of s.memory) tapes t (context_of s) h head s.steps s.traps is_head undone handed had
+      (λ i. left_by h r words tapes (steps_begun s t may i) (traps_begun s t may i))
+      ∙ left_undone r words tapes t (context_of s) h head s.steps s.traps is_head undone handed had
 
   pub nothing_left : (new : PlantState) (head : HeadRec) → (records_held b).head ≡ Some head → held_of new ≡ held_of b → unix_left_at new ≡ undone_of t before
   unfolding unix_at
   nothing_left new head is_head same =
       let rest : rest_of new ≡ rest_of b = ap (λ (h : Held PlantState). h.rest) same in
-      left_at b new b.tty0 b.tty1 (by_rest b new b.tty0 b.tty1 (ap (λ (h : Held PlantState). h.contents) same) rest) rest
-      ∙ ((λ i. left_by h (same i).records (words_of s.memory) (tapes_of (same i).rest) b.steps b.traps)
-      ∙ undone_with (records_held b) (tapes_of b) head is_head is_head)
+      left_at b new b.tty0 b.tty1 (by_rest b new b.tty0 b.tty1 rest) rest
+      ∙ ((λ i. left_by h (same i).records (same i).contents (tapes_of (same i).rest) b.steps b.traps)
+      ∙ (undone_with (records_held b) (contents_of b) (tapes_of b) head is_head is_head
+      ∙ ap (undone_of t) (unix_beside s (tapes_of s) (context_of s) s.steps s.traps)))
+
+  -- pages are prepared, which nothing counts
+  pub prepared_left : (new : PlantState) (head : HeadRec) → (records_held b).head ≡ Some head → OnlyPrepares slot (held_of b) (held_of new) → unix_left_at new ≡ undone_of t before
+  unfolding unix_at
+  prepared_left new head is_head only =
+      let now_head : (records_held new).head ≡ Some head = ap (λ (r : Records). r.head) only.records ∙ is_head in
+      let tapes : tapes_of new ≡ tapes_of s = ap (λ (p : PlantState). tapes_of p) only.rest in
+      left_at b new b.tty0 b.tty1 (by_rest b new b.tty0 b.tty1 only.rest) only.rest
+      ∙ (undone_with (records_held new) (contents_of new) (tapes_of new) head now_head is_head
+      ∙ ap (undone_of t) (ap (λ (ts : ℕ → List ℕ). unix_of (records_held new) (contents_of new) ts (context_of s) s.steps s.traps) tapes
+      ∙ (prepared_unix slot (held_of b) (held_of new) only in_trap.held.records (tapes_of s) (context_of s) s.steps s.traps
+      ∙ unix_beside s (tapes_of s) (context_of s) s.steps s.traps)))
 
   pub short : (plan : Planned) → IsPlanOf b t slot plan → IsShort plan
   short plan is = subst IsShort (sym is.planned) (plan_short b t slot is.head is.process in_trap.held.records.values)
@@ -179,19 +197,19 @@ module _ (s : PlantState) (t : Trap) (may : MayTrap s t) (due : IsDue s t) (slot
       kept b new steps slot plan trap may.most step (trap_ends s b t slot plan (plan_begun plan is)) (short plan is) carried
 
   -- the state that the plan makes
-  pub made_by : (plan : Planned) (is : IsPlanOf b t slot plan) (done : Records) (tapes : ℕ → List ℕ)
-      → IsDone (records_held s) (words_of s.memory) (tapes_of s) slot is.process plan done tapes
-      → unix_of done (words_of s.memory) tapes InKernel (s.steps + steps_in t) (s.traps + 1) ≡ after_trap before t
-  made_by plan is done tapes made =
-      law s may.sound slot is.head is.process is.is_head t done tapes due.mode is.has
-      (subst (λ (plan : Planned). IsDone (records_held s) (words_of s.memory) (tapes_of s) slot is.process plan done tapes) is.planned made)
+  pub made_by : (plan : Planned) (is : IsPlanOf b t slot plan) (done : Records) (words : WordMap) (tapes : ℕ → List ℕ)
+      → IsDone (records_held s) (contents_of s) (tapes_of s) slot is.process plan done words tapes
+      → unix_of done words tapes InKernel (s.steps + steps_in t) (s.traps + 1) ≡ after_trap before t
+  made_by plan is done words tapes made =
+      law s may.sound slot is.head is.process is.is_head t done words tapes due.mode is.has
+      (subst (λ (plan : Planned). IsDone (records_held s) (contents_of s) (tapes_of s) slot is.process plan done words tapes) is.planned made)
 
   pub all_left : (plan : Planned) (new : PlantState) → IsPlanOf b t slot plan → IsCarriedOut b slot plan (held_of new) → unix_left_at new ≡ done_of t before
   unfolding unix_at unix_of
   all_left plan new is carried =
       let k = keeps plan new is carried in
-      let made = made_by plan is (records_held new) (tapes_of new) (plan_done b new slot s.steps is.process plan in_trap may.most (there plan is) (short plan is) carried) in
+      let made = made_by plan is (records_held new) (contents_of new) (tapes_of new) (plan_done b new slot s.steps is.process plan in_trap may.most (there plan is) (short plan is) carried) in
       let done : is_undone h (Some k.head) ≡ false = let served = k.served in grind (arith, nat_tests, served) in
       left_at b new k.tty0 k.tty1 (carrier b new slot plan carried) k.rest
-      ∙ ((λ i. left_by h (records_held new) (words_of s.memory) (tapes_of new) (steps_begun s t may i) (traps_begun s t may i))
-      ∙ left_done (records_held new) (words_of s.memory) (tapes_of new) t h k.head before k.is_head done handed made)
+      ∙ ((λ i. left_by h (records_held new) (contents_of new) (tapes_of new) (steps_begun s t may i) (traps_begun s t may i))
+      ∙ left_done (records_held new) (contents_of new) (tapes_of new) t h k.head before k.is_head done handed made)

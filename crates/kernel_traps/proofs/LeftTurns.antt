@@ -1,5 +1,5 @@
 -- What a panic leaves of a trap that it broke, and of a turn.
-use Rattle.std.proofs.Common.{◌≡◌, ◌∙◌, ◌⊎◌, ◌+◌, ◌++◌, ℕ, List, inl, inr, refl, sym, ap, subst, arith}
+use Rattle.std.proofs.Common.{◌≡◌, ◌∙◌, ◌+◌, ◌++◌, ℕ, List, inl, inr, refl, sym, ap, subst, arith}
 use Rattle.record_layouts.specs.declared.traps.Trap.{Trap}
 use Rattle.record_layouts.specs.declared.traps.Trap.TheVariants as trap
 use Rattle.record_layouts.specs.Unix.Broken.{begun_from}

@@ -3,7 +3,8 @@
 use Rattle.std.proofs.Common.{◌≡◌, ◌∙◌, ◌+◌, ◌^◌, ◌<◌, ◌≤◌, ℕ, List, ◌++◌, length, take, Option, Some, inl, inr, refl, sym, ap, subst, arith}
 use Rattle.std.proofs.lemmas.Bool.{cases_lt}
 use Rattle.std.proofs.lemmas.List.{length-take}
-use Rattle.ow_base.specs.Pages.{bytes_at}
+use Rattle.dead_reader.specs.Left.{told_by as told_left}
+use Rattle.ow_base.specs.Pages.{Pages, bytes_at}
 use Rattle.ow_base.specs.Words.{updated}
 use Rattle.phys_memory.specs.Memory.{words_of}
 use Rattle.record_layouts.specs.declared.patch.PatchItem.{PatchItem}
@@ -12,17 +13,18 @@ use Rattle.record_layouts.specs.declared.term.TermRec.{TermRec}
 use Rattle.record_layouts.specs.declared.traps.Trap.{Trap}
 use Rattle.record_layouts.specs.Decode.{terminal_by, unix_of}
 use Rattle.record_layouts.specs.Held.{Held, Records, with_items}
+use Rattle.record_layouts.specs.Pages.{pages_of}
 use Rattle.record_layouts.specs.Unix.Broken.{IsBrokenFrom, IsDone, IsPartlyPut, IsUndone, done_of, undone_of}
-use Rattle.record_layouts.specs.Unix.Calls.{with_tape}
+use Rattle.record_layouts.specs.Unix.Calls.{with_tape, written_on}
 use Rattle.record_layouts.specs.Unix.State.{Terminal, Unix}
 use Rattle.record_layouts.specs.Unix.Traps.{after_trap}
 use Rattle.process_table.proofs.Kept.{set_here, set_other}
 use Rattle.syscalls.specs.Done.{AreCountedBy, AreWritten}
-use Rattle.syscalls.specs.Planned.{Planned, PlanOnce, PlanWrite, pages_if}
+use Rattle.syscalls.specs.Planned.{Planned, PlanGrow, PlanOnce, PlanWrite, pages_if}
 use Rattle.syscalls.proofs.Written.{terminals_then}
 use Rattle.ow_plant.specs.declared.refusal.Refusal.TheVariants as refusal
 use Rattle.ow_plant.specs.Images.{tapes_of}
-use Rattle.ow_plant.specs.State.{PlantState}
+use Rattle.ow_plant.specs.State.{PlantState, handed_over}
 use Rattle.intent_store.specs.Live.{held_of, records_held, rest_of}
 use Rattle.kernel_traps.specs.Broken.{unix_left_at}
 use Rattle.kernel_traps.specs.Carrying.{IsCarriedOut, MayBeLeft, bytes_of}
@@ -34,9 +36,11 @@ use Rattle.kernel_traps.specs.Traps.{IsDue, IsPlanOf, begun_by}
 use Rattle.kernel_traps.proofs.Done.{told_by as counted_told}
 use Rattle.kernel_traps.proofs.Entering.{MayTrap}
 use Rattle.kernel_traps.proofs.LeftPut.{IsPutTo, bytes_are, partly_is, put_all, put_to, put_unix}
-use Rattle.kernel_traps.proofs.LeftTraps.{all_left, below, counted_there, in_trap, keeps, left_at, low_put, made_by, nothing_left, plan_begun, short, small_by, there, told_on, undone_with}
+use Rattle.kernel_traps.proofs.LeftTraps.{all_left, below, counted_there, in_trap, keeps, left_at, low_put, made_by, nothing_left, plan_begun, prepared_left, short, small_by, there, told_on, undone_with}
 use Rattle.kernel_traps.proofs.OfProcesses.{same_terms}
+use Rattle.kernel_traps.proofs.LeftRecords.{left_by}
 use Rattle.kernel_traps.proofs.Puts.{puts_beside}
+use Rattle.kernel_traps.proofs.Stays.{contents_of, pages_beside, unix_beside}
 use Rattle.kernel_traps.proofs.TrapKinds.{trap_ends}
 use Rattle.kernel_traps.proofs.TrapUnix.{by_rest}
 
@@ -95,9 +99,11 @@ module _ (s : PlantState) (t : Trap) (may : MayTrap s t) (due : IsDue s t) (slot
       (subst (λ (held : Option TermRec). AreCounted bytes held (written.terms tty)) (sym counts)
       (subst (λ (held : Option TermRec). AreCounted bytes (Some terminal) held) (sym (set_here r.terms tty (Some (counted_in terminal bytes))))
       (record { written = refl; last = refl; consumed = refl; base = refl; tty = refl }))))) in
-      let its : AreWritten r (tapes_of s) tty (bytes_at (pages_if r (words_of s.memory) slot (Some is.process)) from len) written tapes =
+      let by_slot : AreWritten r (tapes_of s) tty (bytes_at (pages_if r (words_of s.memory) slot (Some is.process)) from len) written tapes =
       subst (λ (held : Option ProcRec). AreWritten r (tapes_of s) tty (bytes_at (pages_if r (words_of s.memory) slot held) from len) written tapes) (there s t may due slot plan is) are in
-      let made = made_by s t may due slot plan is (with_items written items) tapes (written, its, refl) in
+      let its : AreWritten r (tapes_of s) tty (bytes_at (pages_of r (contents_of s) slot is.process) from len) written tapes =
+      subst (λ (pages : Pages). AreWritten r (tapes_of s) tty (bytes_at pages from len) written tapes) (pages_beside s slot is.process) by_slot in
+      let made = made_by s t may due slot plan is (with_items written items) (contents_of s) tapes (written, its, refl, refl) in
       let of = (trap_ends s b t slot plan (plan_begun s t may due slot plan is)).of_processes in
       sym (ap (λ (u : Unix). u.terminals tty) made)
       ∙ (ap (λ (f : ℕ → Option TermRec). terminal_by (tapes tty) (f tty)) (same_terms written items of)
@@ -112,7 +118,7 @@ module _ (s : PlantState) (t : Trap) (may : MayTrap s t) (due : IsDue s t) (slot
       let plan = PlanWrite tty from len items in
       let bytes = bytes_of b slot from len in
       let counted = take part.count bytes in
-      let words = words_of s.memory in
+      let words = contents_of s in
       let low = low_put b tty counted part.out (held_of new) part.put in
       let told = told_on b s.steps tty (in_trap s t may due slot) low in
       let all = small_by b s.steps slot tty from len (in_trap s t may due slot) may.most low (short s t may due slot plan is).1 in
@@ -120,13 +126,15 @@ module _ (s : PlantState) (t : Trap) (may : MayTrap s t) (due : IsDue s t) (slot
       let (terminal, counts) = counted_there counted ((records_held b).terms tty) ((records_held new).terms tty) part.put.drawn.counted in
       let after = after_write tty from len items terminal is low counts in
       let rest = ap (λ (h : Held PlantState). h.rest) part.put.rest ∙ puts_beside (rest_of b) tty part.out in
-      let stands = by_rest b new _ _ (ap (λ (h : Held PlantState). h.contents) part.put.rest) rest in
+      let put_contents : contents_of new ≡ contents_of s = ap (λ (h : Held PlantState). h.contents) part.put.rest in
+      let stands = by_rest b new _ _ rest in
       let head : (records_held new).head ≡ Some is.head = ap (λ (r : Records). r.head) part.put.drawn.beside.rest ∙ is.is_head in
       IsPartlyPut tty part.count (subst (λ (l : List ℕ). part.count ≤ length l) (sym (bytes_are t before tty bytes after)) part.within)
       (left_at b new _ _ stands rest
-      ∙ (undone_with s t may due slot (records_held new) (tapes_of new) is.head head is.is_head
-      ∙ (ap (undone_of t) (put_unix (held_of b) (held_of new) tty counted part.out part.put part.are_out low told small words (context_of s) s.steps s.traps)
-      ∙ partly_is t before tty bytes after part.count)))
+      ∙ ((λ i. left_by (told_left (handed_over b)) (records_held new) (put_contents i) (tapes_of new) b.steps b.traps)
+      ∙ (undone_with s t may due slot (records_held new) words (tapes_of new) is.head head is.is_head
+      ∙ (ap (undone_of t) (put_unix (held_of b) (held_of new) tty counted part.out part.put part.are_out low told small words (context_of s) s.steps s.traps ∙ ap (λ (u : Unix). written_on u tty counted) (unix_beside s (tapes_of s) (context_of s) s.steps s.traps))
+      ∙ partly_is t before tty bytes after part.count))))
 
   -- all of the plan is carried out
   all_done : (plan : Planned) (new : PlantState) → IsPlanOf b t slot plan → IsCarriedOut b slot plan (held_of new) → IsBrokenFrom t before (unix_left_at new)
@@ -139,6 +147,8 @@ module _ (s : PlantState) (t : Trap) (may : MayTrap s t) (due : IsDue s t) (slot
   of_store (PlanWrite tty from len items) new is (inl partly) = part_left tty from len items new is (put_to (held_of b) (held_of new) tty (bytes_of b slot from len) partly)
   of_store (PlanWrite tty from len items) new is (inr (inl put)) = part_left tty from len items new is (put_all (held_of b) (held_of new) tty (bytes_of b slot from len) put)
   of_store (PlanWrite tty from len items) new is (inr (inr carried)) = all_done (PlanWrite tty from len items) new is carried
+  of_store (PlanGrow count items) new is (inl only) = IsUndone (prepared_left s t may due slot new is.head is.is_head only)
+  of_store (PlanGrow count items) new is (inr carried) = all_done (PlanGrow count items) new is carried
 
   of_plan : (plan : Planned) (new : PlantState) → IsPlanOf b t slot plan → MayBeLeftOfPlan b slot plan new → IsBrokenFrom t before (unix_left_at new)
   of_plan plan new is (inl (store, left)) = of_store plan new is left

@@ -14,6 +14,7 @@ pub mod LeftSoundTapes
 pub mod LeftSoundHeld
 pub mod LeftSound
 pub mod UnixBy
+pub mod Preparing
 pub mod Returning
 pub mod Causes
 pub mod Isolated

@@ -93,10 +93,12 @@ ended_are_items r head slot process status trap writes = record {
   served = refl;
 }
 
-ends_with : (r : Records) (trap : ℕ) (plan : Planned) → AreItems r trap (items_in plan) → KeepDescriptors r (items_in plan) → KeepsSound r plan
-    → EndsTrap r trap plan
-ends_with r trap plan items descriptors keeps = record {
+ends_with : (r : Records) (slot trap : ℕ) (process : ProcRec) (plan : Planned) → r.procs slot ≡ Some process → AreItems r trap (items_in plan) → KeepDescriptors r (items_in plan)
+    → KeepsSound r slot process plan → EndsTrap r slot trap plan
+ends_with r slot trap process plan there items descriptors keeps = record {
   of_processes = items.of_processes;
+  process = process;
+  there = there;
   keeps_sound = keeps;
   keeps_descriptors = descriptors;
   in_writes = items.in_writes;
@@ -107,18 +109,18 @@ ends_with r trap plan items descriptors keeps = record {
 
 -- a bank is saved, a process ends
 pub saved_ends : (r : Records) (head : HeadRec) (slot : ℕ) (process : ProcRec) (bank : Bank) (trap : ℕ) → AreSound r → AreInWrites r → r.head ≡ Some head → IsIn r slot process
-    → process.state ≡ 1 → EndsTrap r trap (PlanOnce (saved_items head slot process bank trap))
+    → process.state ≡ 1 → EndsTrap r slot trap (PlanOnce (saved_items head slot process bank trap))
 unfolding saved_items
 saved_ends r head slot process bank trap sound writes is_head is out =
-    ends_with r trap (PlanOnce (saved_items head slot process bank trap))
+    ends_with r slot trap process (PlanOnce (saved_items head slot process bank trap)) is.there
     (two_items r head slot trap process.pid (saved_process process bank) writes (λ s. absurd (omega (arith, s, out))))
     (save_keeps r head slot process bank trap is)
     (saved_sound r head slot process bank trap sound is_head is out)
 
 pub ended_ends : (r : Records) (head : HeadRec) (slot : ℕ) (process : ProcRec) (status trap : ℕ) → AreSound r → AreInWrites r → r.head ≡ Some head → IsIn r slot process
-    → IsStatus status → EndsTrap r trap (PlanOnce (ended_items head slot process status trap))
+    → IsStatus status → EndsTrap r slot trap (PlanOnce (ended_items head slot process status trap))
 ended_ends r head slot process status trap sound writes is_head is word =
-    ends_with r trap (PlanOnce (ended_items head slot process status trap)) (ended_are_items r head slot process status trap writes)
+    ends_with r slot trap process (PlanOnce (ended_items head slot process status trap)) is.there (ended_are_items r head slot process status trap writes)
     (end_keeps r head slot process status trap sound is)
     (subst AreSound (sym (ended_are r head slot process status trap)) (ended_sound r head slot process status trap sound is_head is word))
 
@@ -152,10 +154,10 @@ signal_are_items r head slot process signals signal trap writes is = elim (cases
 ]
 
 pub signal_ends_trap : (r : Records) (head : HeadRec) (slot : ℕ) (process : ProcRec) (signals : SigRec) (signal trap : ℕ) → AreSound r → AreInWrites r → r.head ≡ Some head
-    → IsIn r slot process → r.sigs slot ≡ Some signals → next_signal process signals ≡ Some signal → EndsTrap r trap (PlanOnce (signal_items head slot process signals signal trap))
+    → IsIn r slot process → r.sigs slot ≡ Some signals → next_signal process signals ≡ Some signal → EndsTrap r slot trap (PlanOnce (signal_items head slot process signals signal trap))
 signal_ends_trap r head slot process signals signal trap sound writes is_head is there next =
     let range = signal_range process signals signal next in
-    ends_with r trap (PlanOnce (signal_items head slot process signals signal trap)) (signal_are_items r head slot process signals signal trap writes is)
+    ends_with r slot trap process (PlanOnce (signal_items head slot process signals signal trap)) is.there (signal_are_items r head slot process signals signal trap writes is)
     (signal_keeps r head slot process signals signal trap sound is_head is there)
     (signal_sound r head slot process signals signal trap sound is_head is there range.0 range.1)
 
@@ -194,9 +196,11 @@ served_sound r head trap sound is_head =
       mapped = mapped_stay r (Some (record head { served = trap })) r.procs r.sigs r.exits were sound.mapped;
     }
 
-pub served_ends : (r : Records) (head : HeadRec) (trap : ℕ) → AreSound r → AreInWrites r → r.head ≡ Some head → EndsTrap r trap (PlanOnce (served_items head trap))
-served_ends r head trap sound writes is_head = record {
+pub served_ends : (r : Records) (head : HeadRec) (slot trap : ℕ) (process : ProcRec) → AreSound r → AreInWrites r → r.head ≡ Some head → r.procs slot ≡ Some process → EndsTrap r slot trap (PlanOnce (served_items head trap))
+served_ends r head slot trap process sound writes is_head there = record {
   of_processes = one_more (head_item head trap head.last) [] refl no_more;
+  process = process;
+  there = there;
   keeps_sound = served_sound r head trap sound is_head;
   keeps_descriptors = record {
     descs = refl;
@@ -221,20 +225,20 @@ module _ (r : Records) (head : HeadRec) (slot trap : ℕ) (process : ProcRec) (b
   becomes after served = two_items r head slot trap after.pid after writes (λ state. in_write after (served.call state))
 
 pub call_ends : (r : Records) (words : WordMap) (slot trap : ℕ) (head : HeadRec) (process : ProcRec) (bank : Bank) → AreSound r → AreInWrites r → r.head ≡ Some head → IsIn r slot process
-    → process.state ≡ 1 → length process.descs ≡ 8 → EndsTrap r trap (planned_call r words slot trap head process bank)
+    → process.state ≡ 1 → length process.descs ≡ 8 → EndsTrap r slot trap (planned_call r words slot trap head process bank)
 unfolding planned_call
 call_ends r words slot trap head process bank sound writes is_head is out eight =
-    ends_with r trap (planned_number r (pages_of r words slot process) (caller_with slot trap head (saved_process process bank)) (register bank.regs 17))
+    ends_with r slot trap process (planned_number r (pages_of r words slot process) (caller_with slot trap head (saved_process process bank)) (register bank.regs 17)) is.there
     (number_items (AreItems r trap) r head slot trap process bank is (pages_of r words slot process)
     (ends_so r head slot trap process bank is writes) (becomes r head slot trap process bank is writes) (register bank.regs 17))
     (call_keeps_descriptors r words slot trap head process bank sound is)
     (call_keeps r words slot trap head process bank sound is_head is out eight)
 
 pub piece_ends : (r : Records) (words : WordMap) (slot trap : ℕ) (head : HeadRec) (process : ProcRec) → AreSound r → AreInWrites r → r.head ≡ Some head → IsIn r slot process
-    → process.state ≡ 2 → EndsTrap r trap (planned_piece r words slot trap head process)
+    → process.state ≡ 2 → EndsTrap r slot trap (planned_piece r words slot trap head process)
 unfolding planned_piece
 piece_ends r words slot trap head process sound writes is_head is state =
-    ends_with r trap (planned_of_call r (pages_of r words slot process) (caller_with slot trap head process))
+    ends_with r slot trap process (planned_of_call r (pages_of r words slot process) (caller_with slot trap head process)) is.there
     (piece_items (AreItems r trap) r head slot trap process (bank_of process) is (pages_of r words slot process)
     (ends_so r head slot trap process (bank_of process) is writes) (becomes r head slot trap process (bank_of process) is writes))
     (piece_keeps_descriptors r words slot trap head process sound is)

@@ -1,6 +1,9 @@
 -- The traps by name: each has its plan, which ends it and makes of the state what the Unix makes of it.
 use Rattle.std.proofs.Common.{◌≡◌, ◌∙◌, ◌+◌, ℕ, true, false, List, Option, Some, None, IfSome, Result, Ok, Err, OnOk, OnErr, is_some, refl, sym, ap, subst, arith}
 use Rattle.std.specs.Option.{unwrap_or}
+use Rattle.ow_base.specs.Pages.{Pages}
+use Rattle.ow_base.specs.Sv32.{WordMap}
+use Rattle.ow_base.specs.UserStep.{register}
 use Rattle.ow_base.specs.declared.machine.Came.{Came}
 use Rattle.record_layouts.specs.declared.places.RecordId.TheVariants as id
 use Rattle.phys_memory.specs.Memory.{words_of}
@@ -14,13 +17,13 @@ use Rattle.record_layouts.specs.Unix.Calls.{ended_as, call_entered, piece_of, tr
 use Rattle.record_layouts.specs.Decode.{Context, InKernel, InUser, process_of, processes_of, slot_by, unix_of}
 use Rattle.record_layouts.specs.Held.{Records, with_items}
 use Rattle.record_layouts.specs.Unix.Signals.{signalled}
-use Rattle.record_layouts.specs.Pages.{is_mapped}
+use Rattle.record_layouts.specs.Pages.{is_live, is_mapped, live_one}
 use Rattle.record_layouts.specs.Sound.{AreNumbered, AreSound, IsIn}
 use Rattle.record_layouts.specs.Unix.Traps.{after_trap, came_of, or_zero, pid_of, steps_in}
 use Rattle.record_layouts.specs.Unix.Turn.{closed, idled}
 use Rattle.record_layouts.specs.Unix.State.{Process, Unix}
 use Rattle.process_table.specs.Choosing.{next_signal, signal_by}
-use Rattle.process_table.specs.Patches.{ended_items, saved_items}
+use Rattle.process_table.specs.Patches.{ended_items, saved_items, saved_process}
 use Rattle.process_table.proofs.Endings.{ended_are}
 use Rattle.process_table.proofs.EndedUnix.{ended_unix}
 use Rattle.process_table.proofs.Running.{signal_range}
@@ -29,7 +32,7 @@ use Rattle.process_table.proofs.Seats.{found_in}
 use Rattle.process_table.proofs.Signalling.{signal_unix}
 use Rattle.syscalls.specs.declared.service.Service.{Service}
 use Rattle.syscalls.specs.Done.{IsDone}
-use Rattle.syscalls.specs.Planned.{Planned, PlanOnce, PlanWrite}
+use Rattle.syscalls.specs.Planned.{Planned, PlanGrow, PlanOnce, PlanWrite, caller_with, planned_call, planned_number, planned_of_call, planned_piece}
 use Rattle.syscalls.specs.Serving.{CanCall, IsDoable, plan_of}
 use Rattle.syscalls.proofs.Becoming.{caller_decodes}
 use Rattle.syscalls.proofs.Exported.{entered_then, goes_on_then}
@@ -43,7 +46,7 @@ use Rattle.kernel_traps.specs.Refused.{IsRefusedIn}
 use Rattle.kernel_traps.proofs.Entering.{MayTrap, begins, steps_begun}
 use Rattle.kernel_traps.proofs.Plans.{call_ends, ended_ends, piece_ends, saved_ends, served_ends, signal_ends_trap}
 use Rattle.kernel_traps.proofs.Serves.{closed_in_user, closed_unix, idle_unix}
-use Rattle.kernel_traps.proofs.Stays.{eight_held}
+use Rattle.kernel_traps.proofs.Stays.{contents_of, counted_frames, eight_held, pages_beside, unix_beside}
 use Rattle.kernel_traps.proofs.TrapUnix.{trap_made}
 
 -- the head decodes
@@ -96,7 +99,7 @@ signals_there s slot process signal sound is goes =
 
 -- each plan ends its trap
 ends_for : (s : PlantState) (t : Trap) (slot : ℕ) (head : HeadRec) (process : ProcRec) → IsHeldSound s → (records_held s).head ≡ Some head → CanHave (records_held s) t slot process
-    → EndsTrap (records_held s) (risen s.traps) (plan_for (begun_by s t) t slot head process)
+    → EndsTrap (records_held s) slot (risen s.traps) (plan_for (begun_by s t) t slot head process)
 ends_for s (trap.Entry pid) slot head process sound is_head has =
     call_ends (records_held s) (words_of s.memory) slot (risen s.traps) head process s.bank sound.records sound.in_writes is_head has.seat.0 has.suits
     (eight_held s slot process has.seat.0.there)
@@ -110,12 +113,12 @@ ends_for s (trap.Signal pid signal) slot head process sound is_head has =
     let r = records_held s in
     let trap = risen s.traps in
     let (signals, there, next) = signals_there s slot process signal sound has.seat.0 has.suits in
-    subst (λ (held : Option SigRec). EndsTrap r trap (PlanOnce (signal_items_by head slot process held signal trap))) (sym there)
+    subst (λ (held : Option SigRec). EndsTrap r slot trap (PlanOnce (signal_items_by head slot process held signal trap))) (sym there)
     (signal_ends_trap r head slot process signals signal trap sound.records sound.in_writes is_head has.seat.0 there next)
-ends_for s trap.Idle slot head process sound is_head has = served_ends (records_held s) head (risen s.traps) sound.records sound.in_writes is_head
+ends_for s trap.Idle slot head process sound is_head has = served_ends (records_held s) head slot (risen s.traps) process sound.records sound.in_writes is_head has.seat.1
 ends_for s (trap.Closing (Some pid)) slot head process sound is_head has =
     saved_ends (records_held s) head slot process s.bank (risen s.traps) sound.records sound.in_writes is_head has.seat.0 has.suits
-ends_for s (trap.Closing None) slot head process sound is_head has = served_ends (records_held s) head (risen s.traps) sound.records sound.in_writes is_head
+ends_for s (trap.Closing None) slot head process sound is_head has = served_ends (records_held s) head slot (risen s.traps) process sound.records sound.in_writes is_head has.seat.1
 
 -- what a plant stands for, by what the processor has
 pub kernel_unix : (s : PlantState) → s.in_user ≡ false → unix_of (records_held s) (words_of s.memory) (tapes_of s) InKernel s.steps s.traps ≡ unix_at s
@@ -137,11 +140,6 @@ pub live_at : (s : PlantState) (slot : ℕ) (process : ProcRec) → IsSound s �
 live_at s slot process sound in_kernel is =
     subst (λ (u : Unix). u.processes process.pid ≡ Some (process_of (records_held s) (words_of s.memory) slot process)) (kernel_unix s in_kernel) (kernel_live s slot process sound is)
 
-user_live : (s : PlantState) (slot : ℕ) (process : ProcRec) → IsSound s → IsIn (records_held s) slot process
-    → (p : Process) × ((unix_of (records_held s) (words_of s.memory) (tapes_of s) (InUser process.pid s.slice s.bank) s.steps s.traps).processes process.pid ≡ Some p)
-unfolding unix_of
-user_live s slot process sound is = (_, caller_decodes (records_held s) (words_of s.memory) (InUser process.pid s.slice s.bank) slot process sound.held.records is refl)
-
 -- what a trap makes of a live process
 after_entry : (u : Unix) (pid : ℕ) (p : Process) → u.processes pid ≡ Some p → call_entered u pid p ≡ after_trap u (trap.Entry pid)
 unfolding after_trap
@@ -161,86 +159,114 @@ after_signal u pid p signal live = rw live refl
 
 -- The state that the plan of a trap makes, of a sound plant and the process in the slot of the trap.
 module _ (s : PlantState) (sound : IsSound s) (slot : ℕ) (head : HeadRec) (process : ProcRec) (is_head : (records_held s).head ≡ Some head) where
-  abbrev unix_with : Records → (tapes : ℕ → List ℕ) → (steps : ℕ) → Unix
-  unix_with r tapes steps = unix_of r (words_of s.memory) tapes InKernel steps (s.traps + 1)
+  abbrev words : WordMap
+  words = contents_of s
+
+  abbrev unix_with : Records → WordMap → (tapes : ℕ → List ℕ) → (steps : ℕ) → Unix
+  unix_with r words tapes steps = unix_of r words tapes InKernel steps (s.traps + 1)
 
   abbrev unix_in : Context → Unix
-  unix_in context = unix_of (records_held s) (words_of s.memory) (tapes_of s) context s.steps s.traps
+  unix_in context = unix_of (records_held s) words (tapes_of s) context s.steps s.traps
 
-  abbrev IsDoneBy : Planned → (done : Records) → (tapes : ℕ → List ℕ) → Type 0
-  IsDoneBy plan done tapes = IsDone (records_held s) (words_of s.memory) (tapes_of s) slot process plan done tapes
+  abbrev IsDoneBy : Planned → (done : Records) → WordMap → (tapes : ℕ → List ℕ) → Type 0
+  IsDoneBy plan done done_words tapes = IsDone (records_held s) words (tapes_of s) slot process plan done done_words tapes
 
   -- records that are set at once
-  once : (items : List PatchItem) (done : Records) (tapes : ℕ → List ℕ) (steps : ℕ) → IsDoneBy (PlanOnce items) done tapes
-      → unix_with done tapes steps ≡ unix_with (with_items (records_held s) items) (tapes_of s) steps
-  once items done tapes steps is = λ i. unix_with (is.0 i) (is.1 i) steps
+  once : (items : List PatchItem) (done : Records) (done_words : WordMap) (tapes : ℕ → List ℕ) (steps : ℕ) → IsDoneBy (PlanOnce items) done done_words tapes
+      → unix_with done done_words tapes steps ≡ unix_with (with_items (records_held s) items) words (tapes_of s) steps
+  once items done done_words tapes steps is = λ i. unix_with (is.0 i) (is.1 i) (is.2 i) steps
+
+  -- the state by the words beside the area
+  in_words : (context : Context) → unix_in context ≡ unix_of (records_held s) (words_of s.memory) (tapes_of s) context s.steps s.traps
+  in_words context = unix_beside s (tapes_of s) context s.steps s.traps
+
+  kernel_process : IsIn (records_held s) slot process → (unix_in InKernel).processes process.pid ≡ Some (process_of (records_held s) words slot process)
+  unfolding unix_of processes_of
+  kernel_process is = found_in (records_held s) words slot process sound.held.records is
+
+  user_process : IsIn (records_held s) slot process → (p : Process) × ((unix_in (InUser process.pid s.slice s.bank)).processes process.pid ≡ Some p)
+  unfolding unix_of
+  user_process is = (_, caller_decodes (records_held s) words (InUser process.pid s.slice s.bank) slot process sound.held.records is refl)
 
   -- from the process of the slot to the one in user mode
   in_user : (pid : ℕ) (f : Unix → (pid : ℕ) → Unix) → IsInMode s (Some pid) → process.pid ≡ pid → f (unix_in (InUser process.pid s.slice s.bank)) process.pid ≡ f (unix_at s) pid
-  in_user pid f mode own = λ i. f (user_unix s process.pid mode.0 (own ∙ sym mode.1) i) (own i)
+  in_user pid f mode own = λ i. f ((in_words (InUser process.pid s.slice s.bank) ∙ user_unix s process.pid mode.0 (own ∙ sym mode.1)) i) (own i)
 
   in_kernel : (pid : ℕ) (f : Unix → (pid : ℕ) → Unix) → IsInMode s None → process.pid ≡ pid → f (unix_in InKernel) process.pid ≡ f (unix_at s) pid
-  in_kernel pid f mode own = λ i. f (kernel_unix s mode i) (own i)
+  in_kernel pid f mode own = λ i. f ((in_words InKernel ∙ kernel_unix s mode) i) (own i)
 
-  no_step : (r : Records) → unix_with r (tapes_of s) (s.steps + 0) ≡ unix_with r (tapes_of s) s.steps
-  no_step r = ap (unix_with r (tapes_of s)) (let same : s.steps + 0 ≡ s.steps = omega arith in same)
+  no_step : (r : Records) → unix_with r words (tapes_of s) (s.steps + 0) ≡ unix_with r words (tapes_of s) s.steps
+  no_step r = ap (unix_with r words (tapes_of s)) (let same : s.steps + 0 ≡ s.steps = omega arith in same)
 
-  pub law : (t : Trap) (done : Records) (tapes : ℕ → List ℕ) → IsInMode s (user_before t) → CanHave (records_held s) t slot process
-      → IsDoneBy (plan_for (begun_by s t) t slot head process) done tapes → unix_with done tapes (s.steps + steps_in t) ≡ after_trap (unix_at s) t
+  -- the plan of a call by these words
+  call_beside : planned_call (records_held s) (words_of s.memory) slot (risen s.traps) head process s.bank ≡ planned_call (records_held s) words slot (risen s.traps) head process s.bank
+  unfolding planned_call
+  call_beside = ap (λ (pages : Pages). planned_number (records_held s) pages (caller_with slot (risen s.traps) head (saved_process process s.bank)) (register s.bank.regs 17))
+      (pages_beside s slot process)
+
+  piece_beside : planned_piece (records_held s) (words_of s.memory) slot (risen s.traps) head process ≡ planned_piece (records_held s) words slot (risen s.traps) head process
+  unfolding planned_piece
+  piece_beside = ap (λ (pages : Pages). planned_of_call (records_held s) pages (caller_with slot (risen s.traps) head process)) (pages_beside s slot process)
+
+  pub law : (t : Trap) (done : Records) (done_words : WordMap) (tapes : ℕ → List ℕ) → IsInMode s (user_before t) → CanHave (records_held s) t slot process
+      → IsDoneBy (plan_for (begun_by s t) t slot head process) done done_words tapes → unix_with done done_words tapes (s.steps + steps_in t) ≡ after_trap (unix_at s) t
   unfolding after_trap
-  law (trap.Entry pid) done tapes mode has made =
+  law (trap.Entry pid) done done_words tapes mode has made =
       let (is, own) = has.seat in
-      let (p, live) = user_live s slot process sound is in
-      entered_then (records_held s) (words_of s.memory) (tapes_of s) slot (risen s.traps) s.slice head process s.bank s.steps s.traps p done tapes sound.held.records is_head is live made
+      let (p, live) = user_process is in
+      entered_then (records_held s) words (tapes_of s) slot (risen s.traps) s.slice head process s.bank s.steps s.traps p done done_words tapes sound.held.records is_head is live (counted_frames s sound.held.armed sound.held.records)
+      (subst (λ (plan : Planned). IsDoneBy plan done done_words tapes) call_beside made)
       ∙ (after_entry (unix_in (InUser process.pid s.slice s.bank)) process.pid p live ∙ in_user pid (λ u pid. after_trap u (trap.Entry pid)) mode own)
-  law (trap.Piece pid) done tapes mode has made =
+  law (trap.Piece pid) done done_words tapes mode has made =
       let (is, own) = has.seat in
-      let live = kernel_live s slot process sound is in
-      goes_on_then (records_held s) (words_of s.memory) (tapes_of s) slot (risen s.traps) head process s.steps s.traps _ done tapes sound.held.records is_head is has.suits live made
+      let live = kernel_process is in
+      goes_on_then (records_held s) words (tapes_of s) slot (risen s.traps) head process s.steps s.traps _ done done_words tapes sound.held.records is_head is has.suits live
+      (subst (λ (plan : Planned). IsDoneBy plan done done_words tapes) piece_beside made)
       ∙ (after_piece (unix_in InKernel) process.pid _ live ∙ in_kernel pid (λ u pid. after_trap u (trap.Piece pid)) mode own)
-  law (trap.Fault pid cause) done tapes mode has made =
+  law (trap.Fault pid cause) done done_words tapes mode has made =
       let (is, own) = has.seat in
-      let (p, live) = user_live s slot process sound is in
+      let (p, live) = user_process is in
       let context = InUser process.pid s.slice s.bank in
-      once (ended_items head slot process (0x200 + cause) (risen s.traps)) done tapes (s.steps + 1) made
-      ∙ (ap (λ (r : Records). unix_with r (tapes_of s) (s.steps + 1)) (ended_are (records_held s) head slot process (0x200 + cause) (risen s.traps))
-      ∙ (ended_unix (records_held s) head slot process (0x200 + cause) (risen s.traps) (words_of s.memory) (tapes_of s) context s.steps s.traps p
+      once (ended_items head slot process (0x200 + cause) (risen s.traps)) done done_words tapes (s.steps + 1) made
+      ∙ (ap (λ (r : Records). unix_with r words (tapes_of s) (s.steps + 1)) (ended_are (records_held s) head slot process (0x200 + cause) (risen s.traps))
+      ∙ (ended_unix (records_held s) head slot process (0x200 + cause) (risen s.traps) words (tapes_of s) context s.steps s.traps p
       sound.held.records is_head is has.suits.1 refl live
       ∙ (after_fault (unix_in context) process.pid p cause live ∙ in_user pid (λ u pid. after_trap u (trap.Fault pid cause)) mode own)))
-  law (trap.Slice pid) done tapes mode has made =
+  law (trap.Slice pid) done done_words tapes mode has made =
       let (is, own) = has.seat in
-      once (saved_items head slot process s.bank (risen s.traps)) done tapes (s.steps + 1) made
-      ∙ (saved_unix (records_held s) head slot process s.bank (risen s.traps) (words_of s.memory) (tapes_of s) s.slice s.steps s.traps sound.held.records is_head is has.suits
+      once (saved_items head slot process s.bank (risen s.traps)) done done_words tapes (s.steps + 1) made
+      ∙ (saved_unix (records_held s) head slot process s.bank (risen s.traps) words (tapes_of s) s.slice s.steps s.traps sound.held.records is_head is has.suits
       ∙ in_user pid trapped mode own)
-  law (trap.Signal pid signal) done tapes mode has made =
+  law (trap.Signal pid signal) done done_words tapes mode has made =
       let (is, own) = has.seat in
       let r = records_held s in
       let (signals, there, next) = signals_there s slot process signal sound.held is has.suits in
       let range = signal_range process signals signal next in
-      once (signal_items_by head slot process (r.sigs slot) signal (risen s.traps)) done tapes (s.steps + 1) made
-      ∙ (ap (λ (held : Option SigRec). unix_with (with_items r (signal_items_by head slot process held signal (risen s.traps))) (tapes_of s) (s.steps + 1)) there
-      ∙ (signal_unix r head slot process signals signal (risen s.traps) (words_of s.memory) (tapes_of s) s.steps s.traps sound.held.records is_head is there range.0 range.1
-      ∙ (after_signal (unix_in InKernel) process.pid _ signal (kernel_live s slot process sound is) ∙ in_kernel pid (λ u pid. after_trap u (trap.Signal pid signal)) mode own)))
-  law trap.Idle done tapes mode has made =
-      once (served_items head (risen s.traps)) done tapes (s.steps + 1) made
-      ∙ (idle_unix (records_held s) head (risen s.traps) (words_of s.memory) is_head (tapes_of s) s.steps s.traps ∙ ap idled (kernel_unix s mode))
-  law (trap.Closing (Some pid)) done tapes mode has made =
+      once (signal_items_by head slot process (r.sigs slot) signal (risen s.traps)) done done_words tapes (s.steps + 1) made
+      ∙ (ap (λ (held : Option SigRec). unix_with (with_items r (signal_items_by head slot process held signal (risen s.traps))) words (tapes_of s) (s.steps + 1)) there
+      ∙ (signal_unix r head slot process signals signal (risen s.traps) words (tapes_of s) s.steps s.traps sound.held.records is_head is there range.0 range.1
+      ∙ (after_signal (unix_in InKernel) process.pid _ signal (kernel_process is) ∙ in_kernel pid (λ u pid. after_trap u (trap.Signal pid signal)) mode own)))
+  law trap.Idle done done_words tapes mode has made =
+      once (served_items head (risen s.traps)) done done_words tapes (s.steps + 1) made
+      ∙ (idle_unix (records_held s) head (risen s.traps) words is_head (tapes_of s) s.steps s.traps ∙ ap idled (in_words InKernel ∙ kernel_unix s mode))
+  law (trap.Closing (Some pid)) done done_words tapes mode has made =
       let (is, own) = has.seat in
       let items = saved_items head slot process s.bank (risen s.traps) in
-      once items done tapes (s.steps + 0) made
+      once items done done_words tapes (s.steps + 0) made
       ∙ (no_step (with_items (records_held s) items)
-      ∙ (closed_in_user (records_held s) head slot process s.bank (risen s.traps) (words_of s.memory) (tapes_of s) s.slice s.steps s.traps sound.held.records is_head is has.suits
+      ∙ (closed_in_user (records_held s) head slot process s.bank (risen s.traps) words (tapes_of s) s.slice s.steps s.traps sound.held.records is_head is has.suits
       ∙ in_user pid (λ u pid. closed u) mode own))
-  law (trap.Closing None) done tapes mode has made =
+  law (trap.Closing None) done done_words tapes mode has made =
       let items = served_items head (risen s.traps) in
-      once items done tapes (s.steps + 0) made
+      once items done done_words tapes (s.steps + 0) made
       ∙ (no_step (with_items (records_held s) items)
-      ∙ (closed_unix (records_held s) head (risen s.traps) (words_of s.memory) is_head (tapes_of s) s.steps s.traps ∙ ap closed (kernel_unix s mode)))
+      ∙ (closed_unix (records_held s) head (risen s.traps) words is_head (tapes_of s) s.steps s.traps ∙ ap closed (in_words InKernel ∙ kernel_unix s mode)))
 
 -- what the end of a trap asks, and what is so then
 more_steps : (plan : Planned) (before after : ℕ) → after ≡ before + 1 → HasStep plan before after
 more_steps (PlanOnce items) before after more = tt
 more_steps (PlanWrite tty from len items) before after more = omega (arith, more)
+more_steps (PlanGrow count items) before after more = tt
 
 has_step : (s : PlantState) (t : Trap) (slot : ℕ) (head : HeadRec) (process : ProcRec) (after : ℕ) → after ≡ s.steps + steps_in t
     → HasStep (plan_for (begun_by s t) t slot head process) s.steps after
@@ -289,9 +315,14 @@ can_call r slot process sound is = record {
   mapped = subst (λ (held : Option ProcRec). IfSome held (λ p. is_mapped r slot p ≡ true)) (sym is.there) (sound.mapped.mapped slot process is);
 }
 
-served_by : (r : Records) (slot : ℕ) (plan : Planned) → CanCall r slot → CanBeServed r slot plan
-served_by r slot (PlanOnce items) can = tt
-served_by r slot (PlanWrite tty from len items) can = can
+live_there : (process : ProcRec) → is_live process ≡ true → is_some (live_one (Some process)) ≡ true
+live_there process live = rw live refl
+
+served_by : (r : Records) (slot : ℕ) (process : ProcRec) (plan : Planned) → AreSound r → IsIn r slot process → CanBeServed r slot plan
+served_by r slot process (PlanOnce items) sound is = tt
+served_by r slot process (PlanWrite tty from len items) sound is = can_call r slot process sound is
+served_by r slot process (PlanGrow count items) sound is =
+    (is.within, ap (λ (held : Option ProcRec). is_some (live_one held)) is.there ∙ live_there process is.live)
 
 once_served : (r : Records) (slot : ℕ) (plan : Planned) (items : List PatchItem) → plan ≡ PlanOnce items → CanBeServed r slot plan
 once_served r slot plan items is = subst (λ (plan : Planned). CanBeServed r slot plan) (sym is) tt
@@ -299,8 +330,8 @@ once_served r slot plan items is = subst (λ (plan : Planned). CanBeServed r slo
 -- only a call, or a further piece of one, reads bytes of its process
 begun_served : (s : PlantState) (t : Trap) (slot : ℕ) (plan : Planned) → AreSound (records_held (begun_by s t)) → IsPlanOf (begun_by s t) t slot plan
     → CanBeServed (records_held (begun_by s t)) slot plan
-begun_served s (trap.Entry pid) slot plan sound is = served_by _ slot plan (can_call _ slot is.process sound is.has.seat.0)
-begun_served s (trap.Piece pid) slot plan sound is = served_by _ slot plan (can_call _ slot is.process sound is.has.seat.0)
+begun_served s (trap.Entry pid) slot plan sound is = served_by _ slot is.process plan sound is.has.seat.0
+begun_served s (trap.Piece pid) slot plan sound is = served_by _ slot is.process plan sound is.has.seat.0
 begun_served s (trap.Fault pid cause) slot plan sound is = once_served _ slot plan _ is.planned
 begun_served s (trap.Slice pid) slot plan sound is = once_served _ slot plan _ is.planned
 begun_served s (trap.Signal pid signal) slot plan sound is = once_served _ slot plan _ is.planned
@@ -312,10 +343,10 @@ pub trap_served : (s b : PlantState) (t : Trap) (slot : ℕ) (plan : Planned) �
 trap_served s b t slot plan has =
     subst (λ (b : PlantState). CanBeServed (records_held b) slot plan) (sym has.same) (begun_served s t slot plan (begins s t has.may).held.records has.is)
 
-pub trap_ends : (s b : PlantState) (t : Trap) (slot : ℕ) (plan : Planned) → HasBegun s b t slot plan → EndsTrap (records_held b) b.traps plan
+pub trap_ends : (s b : PlantState) (t : Trap) (slot : ℕ) (plan : Planned) → HasBegun s b t slot plan → EndsTrap (records_held b) slot b.traps plan
 trap_ends s b t slot plan has =
-    subst (λ (b : PlantState). EndsTrap (records_held b) b.traps plan) (sym has.same)
-    (subst (λ (plan : Planned). EndsTrap (records_held s) (risen s.traps) plan) (sym has.is.planned)
+    subst (λ (b : PlantState). EndsTrap (records_held b) slot b.traps plan) (sym has.same)
+    (subst (λ (plan : Planned). EndsTrap (records_held s) slot (risen s.traps) plan) (sym has.is.planned)
     (ends_for s t slot has.is.head has.is.process has.may.sound.held has.is.is_head has.is.has))
 
 pub trap_done : {E : Type 0} (r : Result (Unit {0}) E) (s b new : PlantState) (t : Trap) (slot : ℕ) (x : Service) → HasBegun s b t slot (plan_of x) → IsInMode s (user_before t)
@@ -324,8 +355,8 @@ pub trap_done : {E : Type 0} (r : Result (Unit {0}) E) (s b new : PlantState) (t
 trap_done (Ok x) s b new t slot service has mode doable ended sound =
     trap_made s new t slot has.is.process service (after_trap (unix_at s) t) has.may (there_in (records_held s) (pid_of t) slot has.is.process has.is.has.seat)
     (subst (λ (b : PlantState). IsDoable (records_held b) (words_of b.memory) slot service) has.same doable)
-    (λ made tapes served. law s has.may.sound slot has.is.head has.is.process has.is.is_head t made tapes mode has.is.has
-    (subst (λ (plan : Planned). IsDone (records_held s) (words_of s.memory) (tapes_of s) slot has.is.process plan made tapes) has.is.planned served))
+    (λ made words tapes served. law s has.may.sound slot has.is.head has.is.process has.is.is_head t made words tapes mode has.is.has
+    (subst (λ (plan : Planned). IsDone (records_held s) (contents_of s) (tapes_of s) slot has.is.process plan made words tapes) has.is.planned served))
     (subst (λ (b : PlantState). IsEnded b slot (plan_of service) new) has.same ended) sound
 trap_done (Err e) s b new t slot service has mode doable ended sound = tt
 

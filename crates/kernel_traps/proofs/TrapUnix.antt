@@ -1,11 +1,11 @@
 -- What a plant stands for once the plan of a trap is carried out and the trap has ended.
 use Rattle.std.proofs.Common.{◌≡◌, ◌∙◌, ◌+◌, ◌^◌, ◌<◌, ◌≤◌, ℕ, zero, suc, false, List, length, Option, Some, None, IfSome, refl, sym, ap, subst, arith}
 use Rattle.ow_base.specs.Pages.{Pages, bytes_at}
+use Rattle.ow_base.specs.Sv32.{WordMap}
 use Rattle.phys_memory.specs.Memory.{words_of}
-use Rattle.record_layouts.specs.declared.memory_map.MemoryMap.{MemoryMap}
 use Rattle.record_layouts.specs.declared.proc.ProcRec.{ProcRec}
 use Rattle.record_layouts.specs.declared.term.TermRec.{TermRec}
-use Rattle.record_layouts.specs.Held.{Held, Records, beside}
+use Rattle.record_layouts.specs.Held.{Held, Records}
 use Rattle.record_layouts.specs.Decode.{InKernel, unix_of}
 use Rattle.record_layouts.specs.Unix.Traps.{steps_in}
 use Rattle.record_layouts.specs.Unix.State.{Unix}
@@ -13,10 +13,10 @@ use Rattle.record_layouts.specs.declared.traps.Trap.{Trap}
 use Rattle.syscalls.specs.declared.service.Service.{Service}
 use Rattle.syscalls.specs.declared.service.Service.TheVariants as service
 use Rattle.syscalls.specs.Done.{IsDone}
-use Rattle.syscalls.specs.Planned.{Planned, PlanOnce, PlanWrite, pages_in}
+use Rattle.syscalls.specs.Planned.{Planned, PlanGrow, PlanOnce, PlanWrite, pages_in}
 use Rattle.syscalls.specs.Serving.{IsDoable, plan_of}
 use Rattle.ow_plant.specs.State.{PlantState, left_trap, tty_of, Device}
-use Rattle.intent_store.specs.Live.{held_of, map_of, records_held, rest_of}
+use Rattle.intent_store.specs.Live.{held_of, records_held, rest_of}
 use Rattle.ow_plant.specs.Images.{tapes_of}
 use Rattle.kernel_traps.specs.Plants.{IsInTrap, IsOfDevice, IsSound, context_of, unix_at}
 use Rattle.kernel_traps.specs.Carrying.{IsCarriedOut, bytes_of}
@@ -24,13 +24,12 @@ use Rattle.kernel_traps.specs.Ending.{IsEnded}
 use Rattle.kernel_traps.specs.Turning.{IsSameMachine}
 use Rattle.kernel_traps.specs.Traps.{IsTrapMade, begun_by}
 use Rattle.kernel_traps.proofs.Puts.{puts_beside}
-use Rattle.kernel_traps.proofs.Stays.{map_held, room_held, unix_same}
-use Rattle.kernel_traps.proofs.Done.{done as write_done}
+use Rattle.kernel_traps.proofs.Stays.{contents_of, unix_beside}
+use Rattle.kernel_traps.proofs.Done.{done as write_done, grow_done}
 use Rattle.kernel_traps.proofs.Entering.{MayTrap, begins, steps_begun, traps_begun}
 
 -- what stays of a plant while a plan is carried out
 pub record IsCarrier (old new : PlantState) : Type 0 where
-  pub contents : beside (records_held new).map.area_base (words_of new.memory) ≡ beside (records_held old).map.area_base (words_of old.memory)
   pub shape : new.shape ≡ old.shape
   pub live : new.live ≡ old.live
   pub points : new.points ≡ old.points
@@ -40,10 +39,8 @@ pub record IsCarrier (old new : PlantState) : Type 0 where
   pub steps : new.steps ≡ old.steps
   pub traps : new.traps ≡ old.traps
 
-pub by_rest : (old new : PlantState) (tty0 tty1 : Device) → beside (records_held new).map.area_base (words_of new.memory) ≡ beside (records_held old).map.area_base (words_of old.memory)
-    → rest_of new ≡ record (rest_of old) { tty0 = tty0; tty1 = tty1 } → IsCarrier old new
-by_rest old new tty0 tty1 contents rest = record {
-  contents = contents;
+pub by_rest : (old new : PlantState) (tty0 tty1 : Device) → rest_of new ≡ record (rest_of old) { tty0 = tty0; tty1 = tty1 } → IsCarrier old new
+by_rest old new tty0 tty1 rest = record {
   shape = ap (λ (s : PlantState). s.shape) rest;
   live = ap (λ (s : PlantState). s.live) rest;
   points = ap (λ (s : PlantState). s.points) rest;
@@ -56,24 +53,18 @@ by_rest old new tty0 tty1 contents rest = record {
 
 pub carrier : (old new : PlantState) (slot : ℕ) (plan : Planned) → IsCarriedOut old slot plan (held_of new) → IsCarrier old new
 carrier old new slot (PlanOnce items) is =
-    by_rest old new old.tty0 old.tty1 (ap (λ (h : Held PlantState). h.contents) is) (ap (λ (h : Held PlantState). h.rest) is)
+    by_rest old new old.tty0 old.tty1 (ap (λ (h : Held PlantState). h.rest) is)
 carrier old new slot (PlanWrite tty from len items) (put, is, last) =
-    by_rest old new _ _ (ap (λ (h : Held PlantState). h.contents) last ∙ ap (λ (h : Held PlantState). h.contents) is.rest)
-    (ap (λ (h : Held PlantState). h.rest) last ∙ (ap (λ (h : Held PlantState). h.rest) is.rest ∙ puts_beside (rest_of old) tty (bytes_of old slot from len)))
+    by_rest old new _ _ (ap (λ (h : Held PlantState). h.rest) last ∙ (ap (λ (h : Held PlantState). h.rest) is.rest ∙ puts_beside (rest_of old) tty (bytes_of old slot from len)))
+carrier old new slot (PlanGrow count items) (prepared, only, grown, last) =
+    by_rest old new old.tty0 old.tty1 (ap (λ (h : Held PlantState). h.rest) last ∙ only.rest)
 
--- the state that the plant stands for, by the words before
-map_still : (old new : PlantState) → IsCarrier old new → (records_held new).map ≡ (records_held old).map
-map_still old new is = map_held new ∙ (let same : map_of new ≡ map_of old = rw (is.shape, is.live) refl in same) ∙ sym (map_held old)
-
-pub words_still : (old new : PlantState) → IsCarrier old new
-    → beside (records_held new).map.area_base (words_of new.memory) ≡ beside (records_held new).map.area_base (words_of old.memory)
-words_still old new is = is.contents ∙ ap (λ (m : MemoryMap). beside m.area_base (words_of old.memory)) (sym (map_still old new is))
-
+-- the state that the plant stands for, by the words beside its area
 unix_left : (old new : PlantState) → IsCarrier old new → old.in_user ≡ false
-    → unix_at (left_trap new) ≡ unix_of (records_held new) (words_of old.memory) (tapes_of new) InKernel old.steps old.traps
+    → unix_at (left_trap new) ≡ unix_of (records_held new) (contents_of new) (tapes_of new) InKernel old.steps old.traps
 unfolding unix_at
 unix_left old new is kernel =
-    unix_same (records_held new) (words_of new.memory) (words_of old.memory) (room_held new) (words_still old new is) (tapes_of new) (context_of new) new.steps new.traps
+    sym (unix_beside new (tapes_of new) (context_of new) new.steps new.traps)
     ∙ (let out : context_of new ≡ InKernel = rw (is.in_user ∙ kernel) refl in rw (out, is.steps, is.traps) refl)
 
 -- what is done of the records of a service
@@ -94,9 +85,9 @@ told_by_device s tty None low is = tt
 
 pub service_done : (b new : PlantState) (slot steps : ℕ) (process : ProcRec) (s : Service) → IsInTrap b steps → b.shape.budget ≤ 2000000 → (records_held b).procs slot ≡ Some process
     → IsDoable (records_held b) (words_of b.memory) slot s → IsCarriedOut b slot (plan_of s) (held_of new)
-    → IsDone (records_held b) (words_of b.memory) (tapes_of b) slot process (plan_of s) (records_held new) (tapes_of new)
+    → IsDone (records_held b) (contents_of b) (tapes_of b) slot process (plan_of s) (records_held new) (contents_of new) (tapes_of new)
 service_done b new slot steps process (service.Once patch) trap most there doable is =
-    (ap (λ (h : Held PlantState). h.records) is, ap (λ (h : Held PlantState). tapes_of h.rest) is)
+    (ap (λ (h : Held PlantState). h.records) is, ap (λ (h : Held PlantState). h.contents) is, ap (λ (h : Held PlantState). tapes_of h.rest) is)
 service_done b new slot steps process (service.TtyWrite tty from len patch) trap most there doable is =
     let low : tty < 2 = doable.1.terminal in
     let tape : length (tapes_of b tty) ≡ length (tty_of b tty).tape = ap (λ (t : List ℕ). length t) (same_device b tty low) in
@@ -105,12 +96,13 @@ service_done b new slot steps process (service.TtyWrite tty from len patch) trap
     omega (arith, tape, bytes, doable.1.most, trap.terminals.bytes tty low, trap.counted, trap.budget, most) in
     write_done b new slot tty from len patch.items.items process there low
     (told_by_device b tty ((records_held b).terms tty) low (trap.terminals.records tty low)) room is
+service_done b new slot steps process (service.Grow count patch) trap most there doable is = grow_done b new slot count patch.items.items process there is
 
 -- a trap is made: the state is the one that its plan makes of the records and tapes
 pub trap_made : (s new : PlantState) (t : Trap) (slot : ℕ) (process : ProcRec) (x : Service) (after : Unix) → MayTrap s t
     → (records_held s).procs slot ≡ Some process → IsDoable (records_held s) (words_of s.memory) slot x
-    → ((done : Records) (tapes : ℕ → List ℕ) → IsDone (records_held s) (words_of s.memory) (tapes_of s) slot process (plan_of x) done tapes
-    → unix_of done (words_of s.memory) tapes InKernel (s.steps + steps_in t) (s.traps + 1) ≡ after)
+    → ((done : Records) (words : WordMap) (tapes : ℕ → List ℕ) → IsDone (records_held s) (contents_of s) (tapes_of s) slot process (plan_of x) done words tapes
+    → unix_of done words tapes InKernel (s.steps + steps_in t) (s.traps + 1) ≡ after)
     → IsEnded (begun_by s t) slot (plan_of x) new → IsSound new → IsTrapMade s new after (steps_in t)
 trap_made s new t slot process x after may there doable law (done, out, left) sound =
     let b = begun_by s t in
@@ -120,7 +112,7 @@ trap_made s new t slot process x after may there doable law (done, out, left) so
     let served = service_done b done slot s.steps process x (begins s t may) may.most there doable out in
     let unix : unix_at (left_trap done) ≡ after =
     unix_left b done is refl
-    ∙ ((λ i. unix_of (records_held done) (words_of s.memory) (tapes_of done) InKernel (steps i) (traps i)) ∙ law (records_held done) (tapes_of done) served) in
+    ∙ ((λ i. unix_of (records_held done) (contents_of done) (tapes_of done) InKernel (steps i) (traps i)) ∙ law (records_held done) (contents_of done) (tapes_of done) served) in
     record {
       sound = sound;
       unix = ap (λ (p : PlantState). unix_at p) left ∙ unix;

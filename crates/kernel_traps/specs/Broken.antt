@@ -1,5 +1,5 @@
 -- What a panic leaves of a trap that it broke.
-use Rattle.std.specs.Prelude.{◌≡◌, ℕ, ◌+◌, ◌≤◌, true, Some}
+use Rattle.std.specs.Prelude.{◌≡◌, ◌+◌, ◌≤◌, true, Some}
 use Rattle.dead_reader.specs.Left.{told_by}
 use Rattle.ow_plant.specs.Images.{AreFronts, image_of}
 use Rattle.ow_plant.specs.State.{IsArmed, PlantState, handed_over, is_refused}

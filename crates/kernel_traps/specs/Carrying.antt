@@ -1,12 +1,13 @@
 -- What a service makes of what is held, and what a refusal may leave of it.
-use Rattle.std.specs.Prelude.{◌≡◌, ℕ, ◌+◌, ◌<◌, ◌≤◌, ◌⊎◌, Bool, true, false, List, All, length}
+use Rattle.std.specs.Prelude.{◌≡◌, ℕ, ◌+◌, ◌<◌, ◌≤◌, ◌⊎◌, Bool, true, false, List, All, length, IfSome}
 use Rattle.ow_base.specs.Pages.{bytes_at}
 use Rattle.phys_memory.specs.Memory.{words_of}
 use Rattle.record_layouts.specs.declared.patch.PatchItem.{PatchItem}
 use Rattle.record_layouts.specs.declared.patch.AnyRec.{AnyRec}
 use Rattle.record_layouts.specs.declared.patch.AnyRec.TheVariants as any
 use Rattle.record_layouts.specs.Held.{Held, patched}
-use Rattle.syscalls.specs.Planned.{Planned, PlanOnce, PlanWrite, pages_in}
+use Rattle.address_space.specs.Spaces.{IsGrown, OnlyPrepares}
+use Rattle.syscalls.specs.Planned.{Planned, PlanGrow, PlanOnce, PlanWrite, pages_in}
 use Rattle.ow_plant.specs.State.{PlantState, tty_of}
 use Rattle.intent_store.specs.Live.{held_of, records_held}
 use Rattle.kernel_traps.specs.Putting.{IsPut, IsPutPartly}
@@ -19,19 +20,27 @@ bytes_of s slot from len = bytes_at (pages_in (records_held s) (words_of s.memor
 abbrev pub IsWritten : Held PlantState → (tty : ℕ) → (bytes : List ℕ) → List PatchItem → Held PlantState → Type 0
 IsWritten h tty bytes items new = (put : Held PlantState) × IsPut h tty bytes bytes put × (new ≡ patched items put)
 
+-- pages are prepared behind the heap of the process in a slot, and then the records of a patch are set, which count them
+abbrev pub IsGrownBy : PlantState → (slot count : ℕ) → List PatchItem → Held PlantState → Type 0
+IsGrownBy s slot count items new = (prepared : Held PlantState) × OnlyPrepares slot (held_of s) prepared
+    × IfSome ((records_held s).procs slot) (IsGrown (held_of s) prepared slot count) × (new ≡ patched items prepared)
+
 -- what is held once a service is carried out
 abbrev pub IsCarriedOut : PlantState → (slot : ℕ) → Planned → Held PlantState → Type 0
 IsCarriedOut s slot (PlanOnce items) new = new ≡ patched items (held_of s)
 IsCarriedOut s slot (PlanWrite tty from len items) new = IsWritten (held_of s) tty (bytes_of s slot from len) items new
+IsCarriedOut s slot (PlanGrow count items) new = IsGrownBy s slot count items new
 
 -- What a refusal may leave of a write: some of the bytes, all of them without the patch, or all was done.
 abbrev pub MayBeLeftOfWrite : Held PlantState → (tty : ℕ) → (bytes : List ℕ) → List PatchItem → Held PlantState → Type 0
 MayBeLeftOfWrite h tty bytes items new = IsPutPartly h tty bytes new ⊎ (IsPut h tty bytes bytes new ⊎ IsWritten h tty bytes items new)
 
--- and of any service: where it writes nothing all is as it was, or the patch is set
+-- and of any service: where it writes nothing all is as it was, or the patch is set; and where it prepares pages only pages
+-- are prepared, or all was done
 abbrev pub MayBeLeft : PlantState → (slot : ℕ) → Planned → Held PlantState → Type 0
 MayBeLeft s slot (PlanOnce items) new = (new ≡ held_of s) ⊎ (new ≡ patched items (held_of s))
 MayBeLeft s slot (PlanWrite tty from len items) new = MayBeLeftOfWrite (held_of s) tty (bytes_of s slot from len) items new
+MayBeLeft s slot (PlanGrow count items) new = OnlyPrepares slot (held_of s) new ⊎ IsGrownBy s slot count items new
 
 -- a record of the head, of a process, of its signals or of its exit
 abbrev pub is_of_process : AnyRec → Bool
@@ -53,3 +62,4 @@ pub record HasRoom (s : PlantState) : Type 0 where
 abbrev pub HasRoomFor : PlantState → Planned → Type 0
 HasRoomFor s (PlanOnce items) = Unit {0}
 HasRoomFor s (PlanWrite tty from len items) = HasRoom s
+HasRoomFor s (PlanGrow count items) = Unit {0}

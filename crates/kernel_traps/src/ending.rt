@@ -15,7 +15,7 @@ use syscalls::Service;
 // Carries out the service of a trap, and ends the trap.
 pub(crate) fn end_trap(plant: &mut Plant, slot: u32, service: &Service) -> Result<(), Panicked>
     requires trap { (steps : ℕ) × IsInTrap plant.old steps × HasStep (plan_of service.now) steps plant.old.steps }
-    requires plan { EndsTrap (records_held plant.old) plant.old.traps (plan_of service.now) }
+    requires plan { EndsTrap (records_held plant.old) slot plant.old.traps (plan_of service.now) }
     requires can { CanBeServed (records_held plant.old) slot (plan_of service.now) }
     requires doable { IsDoable (records_held plant.old) (words_of plant.old.memory) slot service.now }
     requires slot { slot < 16 }

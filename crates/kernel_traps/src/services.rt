@@ -1,9 +1,11 @@
 //! What a call asks for, carried out by the kernel that runs.
-ghost use Rattle.std.specs.Prelude.{◌≡◌, ◌⊎◌, ◌+◌, ◌<◌, ◌≤◌, [], ◌∷◌, true, Some, None, length, OnOk, OnErr};
+ghost use Rattle.std.specs.Prelude.{◌≡◌, ◌⊎◌, ◌+◌, ◌<◌, ◌≤◌, [], ◌∷◌, true, Some, None, length, is_some, IfSome, OnOk, OnErr};
 ghost use Rattle.ow_base.specs.Pages.{is_readable};
 ghost use Rattle.phys_memory.specs.Memory.{words_of};
 ghost use Rattle.record_layouts.specs.declared.intent.Gate.TheVariants.{Closed};
 ghost use Rattle.record_layouts.specs.Held.{IsCommittable};
+ghost use Rattle.record_layouts.specs.Pages.{live_one};
+ghost use Rattle.address_space.specs.Spaces.{CanGrow, OnlyPrepares};
 ghost use Rattle.ow_plant.specs.declared.refusal.Refusal.TheVariants as refusal;
 ghost use Rattle.ow_plant.specs.State.{tty_of};
 ghost use Rattle.intent_store.specs.Live.{IsStanding, IsUnstored, gate_held, held_of, may_refuse, records_held};
@@ -11,7 +13,7 @@ ghost use Rattle.syscalls.specs.Planned.{items_in, pages_in};
 ghost use Rattle.syscalls.specs.Serving.{CanCall, IsDoable, IsWritable, plan_of};
 ghost use Rattle.tty_screen.specs.Shown.{TerminalDecodes};
 ghost use Rattle.kernel_traps.specs.Putting.{IsPut, IsPutPartly};
-ghost use Rattle.kernel_traps.specs.Carrying.{HasRoom, HasRoomFor, IsCarriedOut, IsWritten, MayBeLeft, MayBeLeftOfWrite, bytes_of};
+ghost use Rattle.kernel_traps.specs.Carrying.{HasRoom, HasRoomFor, IsCarriedOut, IsGrownBy, IsWritten, MayBeLeft, MayBeLeftOfWrite, bytes_of};
 ghost use Rattle.kernel_traps.specs.Ending.{CanBeServed};
 
 use address_space::{grow, user_bytes};
@@ -106,15 +108,34 @@ fn write_piece(
 }
 
 // Prepares so many pages behind the heap of the process in the slot, and sets the records of a patch, which count them.
-fn grow_heap(live: &mut Live<'_>, slot: u32, count: u32, patch: &Patch) -> Result<(), Panicked> {
+fn grow_heap(live: &mut Live<'_>, slot: u32, count: u32, patch: &Patch) -> Result<(), Panicked>
+    requires able { live.old.plant.now.refusal ≡ None }
+    requires stands { IsStanding live.old.plant.now }
+    requires slot { slot < 16 }
+    requires goes { is_some (live_one ((records_held live.old.plant.now).procs slot)) ≡ true }
+    requires can { IfSome ((records_held live.old.plant.now).procs slot) (CanGrow (records_held live.old.plant.now) slot count) }
+    requires patch { IsCommittable (records_held live.old.plant.now) patch.now.items.items }
+    ensures ok { OnOk result (IsGrownBy live.old.plant.now slot count patch.now.items.items (held_of live.new.plant.now)) }
+    ensures shut { OnOk result (gate_held live.new.plant.now ≡ Closed) }
+    ensures err { OnErr result (OnlyPrepares slot (held_of live.old.plant.now) (held_of live.new.plant.now)
+        ⊎ IsGrownBy live.old.plant.now slot count patch.now.items.items (held_of live.new.plant.now)) }
+    ensures stays { OnOk result (live.new.plant.now.refusal ≡ None) }
+    ensures cause { OnErr result (live.new.plant.now.refusal ≡ Some refusal.Store) }
+    ensures allowed { OnErr result (may_refuse live.old.plant.now ≡ true) }
+    ensures unstored { IsUnstored live.old.plant.now live.new.plant.now }
+    ensures still_stands { IsStanding live.new.plant.now }
+    ensures same_reference { live.new.plant.ghost_name ≡ live.old.plant.ghost_name }
+{
     grow(live, slot, count)?;
     live.commit(&patch.view())
 }
 
-/// Does what a call asks for: the bytes of the process go out, each counted first, and the patch is committed last.
+/// Does what a call asks for: the bytes of the process go out, each counted first, or pages are prepared for it, and the
+/// patch is committed last.
 ///
 /// `Panicked` comes only where a store was refused. Then a front of the bytes is out, of the next one the terminal's
-/// record may know, and the patch is set only where all of them are out.
+/// record may know, and the patch is set only where all of them are out. Where pages are prepared no record counts them
+/// before the patch does.
 pub(crate) fn carry_out(live: &mut Live<'_>, slot: u32, service: &Service) -> Result<(), Panicked>
     requires able { live.old.plant.now.refusal ≡ None }
     requires stands { IsStanding live.old.plant.now }

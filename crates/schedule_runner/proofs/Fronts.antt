@@ -1,5 +1,5 @@
 -- The tapes of a plant only grow, in its turns and in a revival.
-use Rattle.std.proofs.Common.{◌≡◌, ℕ, zero, suc, ◌+◌, ◌<◌, ◌==◌, Bool, true, false, if◌then◌else◌, List, [], ◌∷◌, ◌++◌, length, Option, Some, None, IfSome, is_some, inl, inr, refl, sym, ap, ◌∙◌, arith}
+use Rattle.std.proofs.Common.{◌≡◌, ℕ, zero, suc, ◌+◌, ◌==◌, true, false, List, [], ◌∷◌, ◌++◌, length, Option, Some, None, IfSome, is_some, inl, inr, refl, sym, ap, ◌∙◌, arith}
 use Rattle.std.proofs.lemmas.Bool.{cases_Bool}
 use Rattle.std.proofs.lemmas.Bool.Decides.{nat_tests}
 use Rattle.std.proofs.lemmas.List.{append-nil, append_assoc}
@@ -9,10 +9,9 @@ use Rattle.ow_plant.specs.Images.{AreFronts, image_of, tapes_of}
 use Rattle.ow_plant.specs.State.{Device, PlantState}
 use Rattle.record_layouts.specs.declared.places.RecordId.TheVariants as id
 use Rattle.record_layouts.specs.declared.term.TermRec.{TermRec}
-use Rattle.record_layouts.specs.Decode.{tape_by, terminal_by, unix_of}
+use Rattle.record_layouts.specs.Decode.{terminal_by, unix_of}
 use Rattle.record_layouts.specs.Held.{Records}
 use Rattle.record_layouts.specs.Terminals.{terminal_decodes}
-use Rattle.record_layouts.specs.Unix.State.{Unix}
 use Rattle.record_layouts.proofs.Counting.{HasTapesOf}
 use Rattle.resurrector.specs.Flights.{IsTapeLeft, tape_put}
 use Rattle.schedule_runner.proofs.Revivals.{no_more_tapes, no_more_terminals}

@@ -1,14 +1,12 @@
 -- What the entry of a panic stands for, as the tapes of any later plant tell it.
-use Rattle.std.proofs.Common.{◌≡◌, ℕ, zero, suc, ◌+◌, ◌≤◌, ◌==◌, false, List, [], ◌∷◌, ◌++◌, length, take, slice_index, Option, Some, None, refl, sym, ap, subst, ◌∙◌, arith}
+use Rattle.std.proofs.Common.{◌≡◌, ℕ, zero, suc, ◌≤◌, List, [], ◌++◌, length, take, slice_index, sym, ap, subst, ◌∙◌, arith}
 use Rattle.std.proofs.lemmas.List.{take-append-le}
 use Rattle.ow_base.specs.Images.{Image}
-use Rattle.ow_base.specs.declared.machine.Shape.{Shape}
 use Rattle.ow_base.specs.declared.worlds.Hurt.{Hurt}
 use Rattle.ow_base.specs.declared.worlds.PanicRecord.{PanicRecord}
 use Rattle.dead_reader.specs.Left.{told_by}
 use Rattle.panic_handover.specs.HandOver.{hand_over_in}
-use Rattle.panic_handover.specs.declared.hand_over.HandOver.{HandOver}
-use Rattle.phys_memory.specs.Memory.{whole, with_first}
+use Rattle.phys_memory.specs.Memory.{with_first}
 use Rattle.kernel_traps.proofs.Entries.{entry_alike}
 use Rattle.kernel_traps.specs.Broken.{unix_left_at}
 use Rattle.ow_plant.specs.Images.{AreFronts, entry_image, image_of, tapes_of}
@@ -19,8 +17,7 @@ use Rattle.record_layouts.specs.Images.{AreAlike}
 use Rattle.record_layouts.specs.Left.{HandedOver}
 use Rattle.record_layouts.specs.LeftImages.{unix_left, wounds_of}
 use Rattle.record_layouts.specs.SoundImages.{IsSoundAtPanic}
-use Rattle.record_layouts.specs.Unix.State.{Unix}
-use Rattle.record_layouts.specs.Unix.Wounds.{Wounds, no_wounds}
+use Rattle.record_layouts.specs.Unix.Wounds.{no_wounds}
 use Rattle.record_layouts.proofs.Alike.{same_left, sound_too}
 use Rattle.record_layouts.proofs.LeftImages.{whole as unwounded}
 use Rattle.schedule_runner.specs.Histories.{handed_by, handed_in, hurt_image, images_of, with_hurts}

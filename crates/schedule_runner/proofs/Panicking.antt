@@ -1,5 +1,5 @@
 -- A run goes on behind a panic that is served.
-use Rattle.std.proofs.Common.{◌≡◌, ◌+◌, ◌-◌, ◌<◌, ◌≤◌, ◌⊎◌, inl, inr, ℕ, Bool, false, true, nat_le, List, [], ◌∷◌, ◌++◌, length, map, Option, Some, None, refl, sym, subst, ap, arith, ◌∙◌, length-append}
+use Rattle.std.proofs.Common.{◌≡◌, ◌+◌, ◌<◌, ◌≤◌, inl, inr, ℕ, Bool, false, true, nat_le, List, [], ◌∷◌, ◌++◌, length, map, Option, Some, None, refl, sym, subst, ap, arith, ◌∙◌, length-append}
 use Rattle.std.specs.Prelude.{option_and_then}
 use Rattle.std.specs.List.{list_any}
 use Rattle.std.proofs.lemmas.Bool.Decides.{nat_tests}
@@ -16,7 +16,7 @@ use Rattle.record_layouts.specs.Left.{HandedOver}
 use Rattle.record_layouts.specs.Unix.Abort.{abort, fates}
 use Rattle.record_layouts.specs.Unix.Broken.{begun_from}
 use Rattle.record_layouts.specs.Unix.Choice.{no_keys}
-use Rattle.record_layouts.specs.Unix.Panics.{Due, Images, IsAtPoint, IsPanicEntry, Panics, RunWith, RunsWith, due_at, due_of, line_for, revived_from, state_left}
+use Rattle.record_layouts.specs.Unix.Panics.{Due, IsAtPoint, IsPanicEntry, Panics, RunWith, RunsWith, due_at, due_of, line_for, revived_from, state_left}
 use Rattle.record_layouts.specs.Unix.State.{Unix}
 use Rattle.record_layouts.specs.Unix.Traps.{closing_of, next_trap, or_zero, pid_of, steps_in, trap_of_turn}
 use Rattle.record_layouts.specs.Unix.Turn.{ending_of}
@@ -34,7 +34,7 @@ use Rattle.kernel_traps.specs.Broken.{IsLeftFrom, IsLeftOfTrap, IsLeftOfTurn, un
 use Rattle.world_file.specs.RunLog.{RunFates}
 use Rattle.schedule_runner.specs.Histories.{images_of, lines_of, world_of}
 use Rattle.schedule_runner.specs.Progress.{AreInOrder, HasCome, to_come}
-use Rattle.schedule_runner.specs.Revivals.{fates_aborted, unix_aborted, unix_broken}
+use Rattle.schedule_runner.specs.Revivals.{fates_aborted, unix_broken}
 use Rattle.schedule_runner.specs.Served.{IsServed}
 use Rattle.schedule_runner.proofs.EnteredPanics.{entered_left}
 use Rattle.schedule_runner.proofs.Fronts.{front_then, same_front}

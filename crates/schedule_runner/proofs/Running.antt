@@ -1,5 +1,5 @@
 -- How a run ends, and that it goes on where no panic comes.
-use Rattle.std.proofs.Common.{◌≡◌, ◌+◌, ◌-◌, ◌<◌, ◌≤◌, inl, inr, ℕ, Bool, IsTrue, ◌↔◌, false, true, nat_eq, List, [], ◌∷◌, ◌++◌, length, Option, Some, None, refl, sym, subst, ap, arith, ◌∙◌}
+use Rattle.std.proofs.Common.{◌≡◌, ◌+◌, ◌<◌, ◌≤◌, inl, inr, ℕ, Bool, IsTrue, ◌↔◌, false, true, nat_eq, List, [], ◌++◌, length, Option, Some, None, refl, sym, subst, ap, arith, ◌∙◌}
 use Rattle.std.specs.Prelude.{option_and_then}
 use Rattle.std.specs.List.{list_any}
 use Rattle.std.proofs.lemmas.Bool.{cases_Bool}
@@ -15,7 +15,7 @@ use Rattle.record_layouts.specs.declared.fates.Fate.{Fate}
 use Rattle.record_layouts.specs.declared.traps.Trap.{Trap}
 use Rattle.record_layouts.specs.Unix.Choice.{has_live_process, no_keys}
 use Rattle.record_layouts.specs.Decode.{unix_of}
-use Rattle.record_layouts.specs.Unix.Panics.{Ends, GoesOn, Images, RunWith, RunsWith, due_at, due_of, line_for}
+use Rattle.record_layouts.specs.Unix.Panics.{Ends, GoesOn, RunWith, RunsWith, due_at, due_of, line_for}
 use Rattle.record_layouts.specs.Unix.Traps.{next_trap, trap_of_turn}
 use Rattle.record_layouts.specs.Unix.Turn.{closed, ending_of, turn}
 use Rattle.record_layouts.specs.Unix.State.{Unix, start_of}

@@ -1,5 +1,5 @@
 -- Runs with panics on a plant: the world that is run, and what the entries of its history stand for.
-use Rattle.std.specs.Prelude.{ℕ, ◌<◌, ◌≤◌, ◌≡◌, ◌==◌, ◌&&◌, false, if◌then◌else◌, List, [], ◌∷◌, All, bit_xor, length, map, take, Option, Some, None, option_map}
+use Rattle.std.specs.Prelude.{◌<◌, ◌≤◌, ◌≡◌, ◌==◌, ◌&&◌, false, if◌then◌else◌, List, [], ◌∷◌, All, bit_xor, length, map, take, Option, Some, None, option_map}
 use Rattle.std.specs.List.{AllPairs}
 use Rattle.ow_base.specs.Images.{Image}
 use Rattle.ow_base.specs.Sv32.{WordMap}

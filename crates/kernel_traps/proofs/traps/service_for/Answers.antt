@@ -1,5 +1,8 @@
-use Rattle.std.proofs.Common.{◌∙◌, ap, is_some}
+use Rattle.std.proofs.Common.{◌∙◌, ap, is_some, sym}
+use Rattle.ow_base.specs.declared.machine.Now.{Now}
+use Rattle.record_layouts.specs.declared.memory_map.MemoryMap.{MemoryMap}
 use Rattle.record_layouts.specs.Held.{Records}
+use Rattle.record_layouts.specs.Reading.{records_in, records_of}
 use Rattle.kernel_traps.proofs.Decoding.{head_decodes}
 use Rattle.kernel_traps.proofs.Stays.{view_is}
 use Rattle.kernel_traps.proofs.traps.service_for.Goals as goal
@@ -27,3 +30,8 @@ save_bank-patch-requires-clause-head c =
     let s = c.args.plant.now in
     let view = view_is s c.live_records-view.result.source.now c.live_records-view.result.map c.live_records-view.ensures.source c.live_records-view.ensures.map in
     ap (λ (r : Records). is_some r.head) view ∙ head_decodes s c.requires.sound
+
+pub enter_call-requires-clause-frames : goal.enter_call-requires-clause-frames
+unfolding records_of records_in
+enter_call-requires-clause-frames c =
+    ap (λ (n : Now). n.user_frames) c.now-now.ensures.now ∙ sym (ap (λ (m : MemoryMap). m.user_frames) c.live_records-view.ensures.map)

@@ -1,4 +1,4 @@
-use Rattle.std.proofs.Common.{◌≡◌, Some, sym, subst}
+use Rattle.std.proofs.Common.{◌≡◌, Some, subst}
 use Rattle.ow_base.specs.declared.machine.Shape.{Shape}
 use Rattle.record_layouts.specs.Unix.Traps.{closing_of}
 use Rattle.record_layouts.specs.Unix.Turn.{ending_of}

@@ -1,4 +1,4 @@
-use Rattle.std.proofs.Common.{◌≡◌, map, true, refl, sym, ap, subst, ◌∙◌}
+use Rattle.std.proofs.Common.{◌≡◌, map, true, ap, subst, ◌∙◌}
 use Rattle.std.specs.List.{list_any}
 use Rattle.dead_reader.specs.Left.{told_by}
 use Rattle.ow_plant.specs.Points.{entered_by, is_in}
@@ -7,7 +7,6 @@ use Rattle.world_file.specs.RunLog.{with_entry}
 use Rattle.schedule_runner.proofs.EnteredPanics.{entered_broken}
 use Rattle.schedule_runner.proofs.Fronts.{revived_front}
 use Rattle.schedule_runner.proofs.Points.{none_again}
-use Rattle.schedule_runner.proofs.PanicEntries as entries
 use Rattle.schedule_runner.specs.Revivals.{IsBroken, dead_records}
 use Rattle.schedule_runner.proofs.serving.serve_panic.Goals as goal
 
