@@ -82,8 +82,7 @@ done s t slot tty from len items process there low counted small (put, is, last)
           (told_by bytes (tapes_of s tty) (r.terms tty) (put.records.terms tty) counted small is.drawn.counted);
     } in
     let of_pages : AreWritten r (tapes_of s) tty (bytes_at (pages_of r words slot process) from len) put.records (tapes_of t) =
-    subst (λ (held : Option ProcRec). AreWritten r (tapes_of s) tty (bytes_at (pages_if r words slot held) from len) put.records (tapes_of t)) there written in
-    (
+    subst (λ (held : Option ProcRec). AreWritten r (tapes_of s) tty (bytes_at (pages_if r words slot held) from len) put.records (tapes_of t)) there written in (
       put.records,
       subst (λ (pages : Pages). AreWritten r (tapes_of s) tty (bytes_at pages from len) put.records (tapes_of t)) (pages_beside s slot process) of_pages,
       ap (λ (h : Held PlantState). h.records) last,
@@ -96,8 +95,7 @@ pub grow_done : (s t : PlantState) (slot count : ℕ) (items : List PatchItem) (
     → IsDone (records_held s) (contents_of s) (tapes_of s) slot process (PlanGrow count items) (records_held t) (contents_of t) (tapes_of t)
 grow_done s t slot count items process there (prepared, only, grown, last) =
     let its = subst (λ (held : Option ProcRec). IfSome held (IsGrown (held_of s) prepared slot count)) there grown in
-    let words : contents_of t ≡ prepared.contents = ap (λ (h : Held PlantState). h.contents) last in
-    (
+    let words : contents_of t ≡ prepared.contents = ap (λ (h : Held PlantState). h.contents) last in (
       prepared.records,
       subst (λ (w : WordMap). OnlyPrepares slot (held_as (records_held s) (contents_of s)) (held_as prepared.records w)) (sym words) (prepares_as slot (held_of s) prepared only),
       subst (λ (w : WordMap). IsGrown (held_as (records_held s) (contents_of s)) (held_as prepared.records w) slot count process) (sym words)

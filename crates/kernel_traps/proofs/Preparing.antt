@@ -261,5 +261,5 @@ module _ {Rest : Type 0} (slot : ℕ) (h new : Held Rest) (only : OnlyPrepares s
       let owners = new.records.owners in
       let tables = new.records.table_words in
       let frames : HaveFrames (prepared_by h.records owners tables) = λ place process is.
-          subst (λ (r : Records). is_mapped r place process ≡ true) only.records (mapped_now place process (was_in h.records owners tables place process is)) in
+      subst (λ (r : Records). is_mapped r place process ≡ true) only.records (mapped_now place process (was_in h.records owners tables place process is)) in
       subst AreSoundLeft (sym only.records) (prepared_sound h.records owners tables sound frames)
