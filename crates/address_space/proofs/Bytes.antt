@@ -14,7 +14,7 @@ use Rattle.record_layouts.specs.Unix.Spaces.{with_bytes}
 use Rattle.sv32_tables.proofs.Spaces.{pages_ext}
 
 -- the bytes of a word are the list of them
-byte_listed : (word k : ℕ) → k < 4 → get_or (to_le_bytes w32 word) k 0 ≡ byte_of word k
+pub byte_listed : (word k : ℕ) → k < 4 → get_or (to_le_bytes w32 word) k 0 ≡ byte_of word k
 byte_listed word zero small = omega arith
 byte_listed word (suc zero) small = omega arith
 byte_listed word (suc (suc zero)) small = omega arith

@@ -4,6 +4,7 @@ pub mod Tested
 pub mod Reading
 pub mod Bytes
 pub mod Stored
+pub mod WordStored
 pub mod Outcomes
 pub mod Living
 pub mod Prepared

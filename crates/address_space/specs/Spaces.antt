@@ -2,7 +2,7 @@
 use Rattle.std.specs.Prelude.{◌≡◌, ◌≢◌, ℕ, ◌+◌, ◌-◌, ◌*◌, ◌/◌, ◌^◌, ◌<◌, ◌≤◌, ◌⊎◌, Bool, true, false, nat_lt, not, ◌==◌, ◌&&◌, if◌then◌else◌, List, Some, None}
 use Rattle.record_layouts.specs.declared.proc.ProcRec.{ProcRec}
 use Rattle.record_layouts.specs.Unix.State.{is_within}
-use Rattle.record_layouts.specs.Unix.Spaces.{with_bytes, with_zero_pages}
+use Rattle.record_layouts.specs.Unix.Spaces.{with_bytes, with_word, with_zero_pages}
 use Rattle.record_layouts.specs.Held.{Held, Records}
 use Rattle.record_layouts.specs.Pages.{frame_of, heap_pages, is_live, is_mapped, live_one, page_frame_of, page_total, pages_of}
 use Rattle.record_layouts.specs.Sound.{is_table_place}
@@ -96,6 +96,15 @@ IsPartlyCopied h new from to process = (below : ℕ) × IsCopiedBelow h new from
 pub record IsPut {Rest : Type 0} (h new : Held Rest) (slot address : ℕ) (bytes : List ℕ) : Type 0 where
   pub records : new.records ≡ h.records
   pub pages : framed_pages new.records new.contents slot ≡ with_bytes (framed_pages h.records h.contents slot) address bytes
+  pub contents : (frame word : ℕ) → ((page : ℕ) → page < 2 ^ 20 → page_frame_of h.records slot page ≢ Some frame)
+      → new.contents frame word ≡ h.contents frame word
+  pub disk : new.disk ≡ h.disk
+  pub rest : new.rest ≡ h.rest
+
+-- a word of the process in a slot is stored: no word of a frame changes in which none of its pages lies
+pub record IsWordPut {Rest : Type 0} (h new : Held Rest) (slot address value : ℕ) : Type 0 where
+  pub records : new.records ≡ h.records
+  pub pages : framed_pages new.records new.contents slot ≡ with_word (framed_pages h.records h.contents slot) address value
   pub contents : (frame word : ℕ) → ((page : ℕ) → page < 2 ^ 20 → page_frame_of h.records slot page ≢ Some frame)
       → new.contents frame word ≡ h.contents frame word
   pub disk : new.disk ≡ h.disk

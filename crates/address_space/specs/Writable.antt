@@ -1,15 +1,10 @@
 -- Where a process can write, and where it has an access at all.
-use Rattle.std.specs.Prelude.{ℕ, zero, suc, ◌+◌, Bool, true, false, ◌&&◌, Option, Some, None, is_some}
+use Rattle.std.specs.Prelude.{ℕ, zero, suc, ◌+◌, Bool, true, ◌&&◌, Option, is_some}
 use Rattle.ow_base.specs.Pages.{Pages, is_readable, rights_at}
 use Rattle.ow_base.specs.declared.machine.Rights.{Rights}
-use Rattle.ow_base.specs.declared.machine.Rights.TheVariants.{Code, Values}
+pub use Rattle.record_layouts.specs.Unix.Spaces.{are_values}
 use Rattle.address_space.specs.declared.access.Access.{Access}
 use Rattle.address_space.specs.declared.access.Access.TheVariants.{Read, Write}
-
-abbrev pub are_values : Option Rights → Bool
-are_values (Some Values) = true
-are_values (Some Code) = false
-are_values None = false
 
 -- each of so many bytes from an address on lies in a page of values
 unfoldable pub is_writable : Pages → (address count : ℕ) → Bool

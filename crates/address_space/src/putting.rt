@@ -6,7 +6,8 @@ ghost use Rattle.record_layouts.specs.Held.{IsBeside, StaysUnstored, held_by};
 ghost use Rattle.record_layouts.specs.Pages.{page_frame_of};
 ghost use Rattle.record_layouts.specs.Unix.State.{is_within};
 ghost use Rattle.frame_table.specs.Maps.{framed_pages};
-ghost use Rattle.address_space.specs.Spaces.{IsPut};
+ghost use Rattle.record_layouts.specs.Unix.Spaces.{takes_word};
+ghost use Rattle.address_space.specs.Spaces.{IsPut, IsWordPut};
 ghost use Rattle.address_space.specs.Writable.{is_writable};
 
 use frame_table::page_frame;
@@ -45,6 +46,28 @@ pub fn put_user<W: Writer>(live: &mut W, slot: u32, addr: u32, bytes: &[u8]) -> 
         done = end;
     }
     Ok(())
+}
+
+/// Stores a word of the process in a slot by one store: its address is a multiple of four in a page that the process can
+/// write. At `Panicked` nothing is stored.
+pub fn put_word<W: Writer>(live: &mut W, slot: u32, addr: u32, value: u32) -> Result<(), Panicked>
+    requires able { W.refused live.old ≡ false }
+    requires stands { W.Stands live.old }
+    requires slot { slot < 16 }
+    requires takes { takes_word (framed_pages (W.records live.old) (W.words live.old) slot) addr ≡ true }
+    ensures ok { OnOk result (IsWordPut (held_by W.records W.words W.disk W.rest live.old)
+        (held_by W.records W.words W.disk W.rest live.new) slot addr value) }
+    ensures err { OnErr result (held_by W.records W.words W.disk W.rest live.new ≡ held_by W.records W.words W.disk W.rest live.old) }
+    ensures stays { OnOk result (W.refused live.new ≡ false) }
+    ensures cause { OnErr result (W.refused live.new ≡ true) }
+    ensures unstored { StaysUnstored (W.made live.old) (W.made live.new)
+        (held_by W.records W.words W.disk W.rest live.old) (held_by W.records W.words W.disk W.rest live.new) }
+    ensures allowed { OnErr result (W.may_refuse (W.rest live.old) ≡ true) }
+    ensures still_stands { W.Stands live.new }
+    ensures place { W.place live.new ≡ W.place live.old }
+{
+    let frame = page_frame(live, slot, addr / PAGE).unwrap();
+    live.direct_word(frame, addr % PAGE / WORD, value)
 }
 
 // Stores bytes in one page of a slot, word by word.

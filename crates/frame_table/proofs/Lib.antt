@@ -7,5 +7,4 @@ pub mod Framed
 pub mod Free
 pub mod Keeping
 pub mod Kept
-pub mod Sums
 pub mod Users

@@ -13,7 +13,7 @@ use Rattle.record_layouts.specs.declared.sig.SigRec.{SigRec}
 use Rattle.record_layouts.specs.Decode.{next_by, slot_by}
 use Rattle.record_layouts.specs.Held.{Records}
 use Rattle.record_layouts.specs.Pages.{is_live}
-use Rattle.record_layouts.specs.Sound.{AreInCalls, AreInWrites, AreNumbered, AreOnTerminals, IsIn, is_used}
+use Rattle.record_layouts.specs.Sound.{AreInCalls, AreInBuiltCalls, AreNumbered, AreOnTerminals, IsIn, is_used}
 use Rattle.record_layouts.specs.Spelling.{lies_between}
 use Rattle.kernel_traps.specs.Boot.{IsBootable, program_in}
 use Rattle.kernel_traps.specs.BootRecords.{booted_description, booted_exit, booted_process, booted_signals, description_for, free_process, started_descs, started_record}
@@ -205,8 +205,8 @@ module _ (r : Records) (load : Load) (is : IsBootable load) (booted : IsBooted r
     described = described;
   }
 
-  pub are_in_writes : AreInWrites r
-  are_in_writes = record { each = λ slot process inside e. absurd (omega (arith, (state_small slot process inside.there).0, e)) }
+  pub are_in_built_calls : AreInBuiltCalls r
+  are_in_built_calls = record { each = λ slot process inside e. absurd (omega (arith, (state_small slot process inside.there).0, e)) }
 
   pub are_on_terminals : AreOnTerminals r
   are_on_terminals = record {

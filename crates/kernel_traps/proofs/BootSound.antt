@@ -24,7 +24,7 @@ use Rattle.kernel_traps.specs.Plants.{AreTerminalsSound, IsHeldSound, IsOfDevice
 use Rattle.kernel_traps.specs.Turning.{IsSameMachine}
 use Rattle.kernel_traps.proofs.BootFrames.{clean_there, is_mapped_there}
 use Rattle.kernel_traps.proofs.BootHeld.{IsMade, booted, last, of_shape, words_booted}
-use Rattle.kernel_traps.proofs.BootNumbers.{are_in_calls, are_in_writes, are_numbered, are_on_terminals, in_started}
+use Rattle.kernel_traps.proofs.BootNumbers.{are_in_calls, are_in_built_calls, are_numbered, are_on_terminals, in_started}
 use Rattle.kernel_traps.proofs.BootLayout.{start_loadable}
 use Rattle.kernel_traps.proofs.BootReads.{booted_decodes}
 use Rattle.kernel_traps.proofs.BootStores.{booting_base}
@@ -122,7 +122,7 @@ module _ (load : Load) (old new : PlantState) (b : IsMade load old new) where
     shut = shut_gate new 1 (sym (booting_base new (last load old new b))) (last load old new b).shut;
     records = are_sound (records_held new) load b.is is_booted (are_values (map_of new) (words_of new.memory));
     on_terminals = are_on_terminals (records_held new) load b.is is_booted;
-    in_writes = are_in_writes (records_held new) load b.is is_booted;
+    in_built_calls = are_in_built_calls (records_held new) load b.is is_booted;
   }
 
   are_terminals : AreTerminalsSound new new.steps

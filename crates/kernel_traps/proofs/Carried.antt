@@ -11,12 +11,12 @@ use Rattle.record_layouts.specs.declared.intent.Gate.TheVariants.{Closed}
 use Rattle.record_layouts.specs.declared.patch.PatchItem.{PatchItem}
 use Rattle.record_layouts.specs.Held.{AreValues, Held, Records, patched, with_items}
 use Rattle.record_layouts.specs.Row.{FitsRow}
-use Rattle.record_layouts.specs.Sound.{AreInWrites, AreOnTerminals, AreSound}
+use Rattle.record_layouts.specs.Sound.{AreInBuiltCalls, AreOnTerminals, AreSound}
 use Rattle.record_layouts.specs.Term.{FitsTerm}
 use Rattle.record_layouts.specs.Values.{are_values}
-use Rattle.address_space.specs.Spaces.{IsGrown, OnlyPrepares}
+use Rattle.address_space.specs.Spaces.{IsCopied, IsGrown, OnlyPrepares}
 use Rattle.process_table.proofs.Descriptors.{on_terminals_stay}
-use Rattle.syscalls.specs.Planned.{Planned, PlanGrow, PlanOnce, PlanWrite}
+use Rattle.syscalls.specs.Planned.{Planned, PlanFork, PlanGrow, PlanOnce, PlanPut, PlanWrite, items_in}
 use Rattle.ow_plant.specs.State.{PlantState, left_trap, risen, tty_of, Device}
 use Rattle.intent_store.specs.Live.{IsStanding, gate_held, held_of, map_of, records_held, rest_of}
 use Rattle.kernel_traps.specs.Plants.{AreTerminalsSound, IsInTrap, IsOfDevice, IsSound}
@@ -25,8 +25,8 @@ use Rattle.kernel_traps.specs.Carrying.{HasRoomFor, IsCarriedOut, bytes_of}
 use Rattle.kernel_traps.specs.Ending.{EndsTrap, HasStep}
 use Rattle.kernel_traps.proofs.Puts.{puts_beside}
 use Rattle.kernel_traps.proofs.OfProcesses.{items_beside, same_rows, same_terms, shown_by}
-use Rattle.kernel_traps.proofs.Preparing.{grown_as, items_prepared, prepared_by, prepared_terminals, prepared_writes, prepares_as}
-use Rattle.kernel_traps.proofs.ShownSound.{drawn_rows, drawn_terms, on_terminals_too, shown_sound, writes_too}
+use Rattle.kernel_traps.proofs.Preparing.{copied_as, grown_as, items_prepared, prepared_by, prepared_terminals, prepared_built_calls, prepares_as}
+use Rattle.kernel_traps.proofs.ShownSound.{drawn_rows, drawn_terms, on_terminals_too, shown_sound, built_calls_too}
 use Rattle.kernel_traps.proofs.Terminals.{few_bytes, of_device-same, of_devices}
 
 -- what is written is short, and goes to a terminal that there is
@@ -34,6 +34,8 @@ abbrev pub IsShort : Planned → Type 0
 IsShort (PlanOnce items) = Unit {0}
 IsShort (PlanWrite tty from len items) = (tty < 2) × (len ≤ 16)
 IsShort (PlanGrow count items) = Unit {0}
+IsShort (PlanFork child items) = Unit {0}
+IsShort (PlanPut address status items) = Unit {0}
 
 pub length-bytes_at : (pages : Pages) (address count : ℕ) → length (bytes_at pages address count) ≡ count
 unfolding bytes_at
@@ -47,7 +49,7 @@ pub record IsKept (s new : PlantState) : Type 0 where
   pub rest : rest_of new ≡ record (rest_of s) { tty0 = tty0; tty1 = tty1 }
   pub records : AreSound (records_held new)
   pub on_terminals : AreOnTerminals (records_held new)
-  pub in_writes : AreInWrites (records_held new)
+  pub in_built_calls : AreInBuiltCalls (records_held new)
   pub terminals : AreTerminalsSound new s.steps
   pub head : HeadRec
   pub is_head : (records_held new).head ≡ Some head
@@ -69,7 +71,7 @@ left_sound s new steps trap kept stands able shut =
         shut = shut;
         records = kept.records;
         on_terminals = kept.on_terminals;
-        in_writes = kept.in_writes;
+        in_built_calls = kept.in_built_calls;
       };
       no_trap_runs = refl;
       served = subst (λ (held : Option HeadRec). IfSome held (λ head. head.served < risen new.traps)) (sym kept.is_head)
@@ -103,22 +105,21 @@ terminals_kept s new steps trap rest terms rows =
           subst (λ (p : PlantState). length (tty_of p tty).tape ≤ 16 * s.steps) (sym rest) (omega (arith, was, trap.counted));
     }
 
--- records that are set at once
-once_kept : (s new : PlantState) (steps slot : ℕ) (items : List PatchItem) → IsInTrap s steps → EndsTrap (records_held s) slot s.traps (PlanOnce items)
-    → held_of new ≡ patched items (held_of s) → IsKept s new
-once_kept s new steps slot items trap ends is =
+-- records that are set, and nothing else changes but words
+set_kept : (s new : PlantState) (steps slot : ℕ) (plan : Planned) → IsInTrap s steps → EndsTrap (records_held s) slot s.traps plan
+    → AreSound (with_items (records_held s) (items_in plan)) → records_held new ≡ with_items (records_held s) (items_in plan) → rest_of new ≡ rest_of s → IsKept s new
+set_kept s new steps slot plan trap ends sound records rest =
     let r = records_held s in
-    let records : records_held new ≡ with_items r items = ap (λ (h : Held PlantState). h.records) is in
-    let rest : rest_of new ≡ rest_of s = ap (λ (h : Held PlantState). h.rest) is in
+    let items = items_in plan in
     let terms : (records_held new).terms ≡ r.terms = ap (λ (q : Records). q.terms) records ∙ same_terms r items ends.of_processes in
     let rows : (records_held new).rows ≡ r.rows = ap (λ (q : Records). q.rows) records ∙ same_rows r items ends.of_processes in
     record {
       tty0 = s.tty0;
       tty1 = s.tty1;
       rest = rest;
-      records = subst AreSound (sym records) ends.keeps_sound;
+      records = subst AreSound (sym records) sound;
       on_terminals = subst AreOnTerminals (sym records) (on_terminals_stay r items ends.keeps_descriptors trap.held.on_terminals);
-      in_writes = subst AreInWrites (sym records) ends.in_writes;
+      in_built_calls = subst AreInBuiltCalls (sym records) ends.in_built_calls;
       terminals = terminals_kept s new steps trap rest terms rows;
       head = ends.head;
       is_head = ap (λ (q : Records). q.head) records ∙ ends.is_head;
@@ -167,7 +168,7 @@ write_kept s new steps slot tty from len bytes items put trap most step ends low
       records = subst AreSound (sym now) (ends.keeps_sound put.records.terms put.records.rows sound);
       on_terminals = subst AreOnTerminals (sym beside) (on_terminals_too (with_items r items) put.records.terms put.records.rows
           (on_terminals_stay r items ends.keeps_descriptors trap.held.on_terminals));
-      in_writes = subst AreInWrites (sym beside) (writes_too (with_items r items) put.records.terms put.records.rows ends.in_writes);
+      in_built_calls = subst AreInBuiltCalls (sym beside) (built_calls_too (with_items r items) put.records.terms put.records.rows ends.in_built_calls);
       terminals = write_terminals s new steps tty bytes put.records trap most step low short is.drawn rest terms rows;
       head = ends.head;
       is_head = ap (λ (q : Records). q.head) beside ∙ ends.is_head;
@@ -175,46 +176,68 @@ write_kept s new steps slot tty from len bytes items put trap most step ends low
     }
 
 -- records that are set behind pages that were prepared
-grow_kept : (s new : PlantState) (steps slot count : ℕ) (items : List PatchItem) (prepared : Held PlantState)
-    → IsInTrap s steps → EndsTrap (records_held s) slot s.traps (PlanGrow count items) → OnlyPrepares slot (held_of s) prepared
-    → IfSome ((records_held s).procs slot) (IsGrown (held_of s) prepared slot count) → held_of new ≡ patched items prepared → IsKept s new
-grow_kept s new steps slot count items prepared trap ends only grown last =
+prepared_kept : (s new : PlantState) (steps slot place : ℕ) (plan : Planned) (prepared : Held PlantState)
+    → IsInTrap s steps → EndsTrap (records_held s) slot s.traps plan → OnlyPrepares place (held_of s) prepared
+    → AreSound (with_items prepared.records (items_in plan)) → held_of new ≡ patched (items_in plan) prepared → IsKept s new
+prepared_kept s new steps slot place plan prepared trap ends only sound last =
     let r = records_held s in
+    let items = items_in plan in
     let of = ends.of_processes in
     let owners = prepared.records.owners in
     let tables = prepared.records.table_words in
-    let its = subst (λ (held : Option ProcRec). IfSome held (IsGrown (held_of s) prepared slot count)) ends.there grown in
     let rest : rest_of new ≡ rest_of s = ap (λ (h : Held PlantState). h.rest) last ∙ only.rest in
     let records : records_held new ≡ with_items prepared.records items = ap (λ (h : Held PlantState). h.records) last in
     let beside : records_held new ≡ prepared_by (with_items r items) owners tables =
     records ∙ (ap (λ (q : Records). with_items q items) only.records ∙ items_prepared r owners tables items) in
     let terms : (records_held new).terms ≡ r.terms = ap (λ (q : Records). q.terms) beside ∙ same_terms r items of in
     let rows : (records_held new).rows ≡ r.rows = ap (λ (q : Records). q.rows) beside ∙ same_rows r items of in
-    let sound : AreSound (with_items prepared.records items) = ends.keeps_sound (held_of s).contents prepared.contents prepared.records
-    (prepares_as slot (held_of s) prepared only) (grown_as slot (held_of s) prepared count ends.process its) in
     record {
       tty0 = s.tty0;
       tty1 = s.tty1;
       rest = rest;
       records = subst AreSound (sym records) sound;
       on_terminals = subst AreOnTerminals (sym beside) (prepared_terminals (with_items r items) owners tables (on_terminals_stay r items ends.keeps_descriptors trap.held.on_terminals));
-      in_writes = subst AreInWrites (sym beside) (prepared_writes (with_items r items) owners tables ends.in_writes);
+      in_built_calls = subst AreInBuiltCalls (sym beside) (prepared_built_calls (with_items r items) owners tables ends.in_built_calls);
       terminals = terminals_kept s new steps trap rest terms rows;
       head = ends.head;
       is_head = ap (λ (q : Records). q.head) beside ∙ ends.is_head;
       served = ends.served;
     }
 
+grow_kept : (s new : PlantState) (steps slot count : ℕ) (items : List PatchItem) (prepared : Held PlantState)
+    → IsInTrap s steps → EndsTrap (records_held s) slot s.traps (PlanGrow count items) → OnlyPrepares slot (held_of s) prepared
+    → IfSome ((records_held s).procs slot) (IsGrown (held_of s) prepared slot count) → held_of new ≡ patched items prepared → IsKept s new
+grow_kept s new steps slot count items prepared trap ends only grown last =
+    let its = subst (λ (held : Option ProcRec). IfSome held (IsGrown (held_of s) prepared slot count)) ends.there grown in
+    prepared_kept s new steps slot slot (PlanGrow count items) prepared trap ends only
+    (ends.keeps_sound (held_of s).contents prepared.contents prepared.records (prepares_as slot (held_of s) prepared only)
+    (grown_as slot (held_of s) prepared count ends.process its)) last
+
+fork_kept : (s new : PlantState) (steps slot child : ℕ) (items : List PatchItem) (prepared : Held PlantState)
+    → IsInTrap s steps → EndsTrap (records_held s) slot s.traps (PlanFork child items) → OnlyPrepares child (held_of s) prepared
+    → IfSome ((records_held s).procs slot) (IsCopied (held_of s) prepared slot child) → held_of new ≡ patched items prepared → IsKept s new
+fork_kept s new steps slot child items prepared trap ends only copied last =
+    let its = subst (λ (held : Option ProcRec). IfSome held (IsCopied (held_of s) prepared slot child)) ends.there copied in
+    prepared_kept s new steps slot child (PlanFork child items) prepared trap ends only
+    (ends.keeps_sound (held_of s).contents prepared.contents prepared.records (prepares_as child (held_of s) prepared only)
+    (copied_as slot child (held_of s) prepared ends.process its)) last
+
 -- a service is carried out
 pub kept : (s new : PlantState) (steps slot : ℕ) (plan : Planned) → IsInTrap s steps → s.shape.budget ≤ 2000000 → HasStep plan steps s.steps → EndsTrap (records_held s) slot s.traps plan → IsShort plan
     → IsCarriedOut s slot plan (held_of new) → IsKept s new
-kept s new steps slot (PlanOnce items) trap most step ends short is = once_kept s new steps slot items trap ends is
+kept s new steps slot (PlanOnce items) trap most step ends short is =
+    set_kept s new steps slot (PlanOnce items) trap ends ends.keeps_sound (ap (λ (h : Held PlantState). h.records) is) (ap (λ (h : Held PlantState). h.rest) is)
 kept s new steps slot (PlanWrite tty from len items) trap most step ends (low, short) (put, is, last) =
     let bytes = bytes_of s slot from len in
     let long : length bytes ≡ len = length-bytes_at _ from len in
     write_kept s new steps slot tty from len bytes items put trap most step ends low (omega (arith, long, short)) is last
 kept s new steps slot (PlanGrow count items) trap most step ends short (prepared, only, grown, last) =
     grow_kept s new steps slot count items prepared trap ends only grown last
+kept s new steps slot (PlanFork child items) trap most step ends short (prepared, only, copied, last) =
+    fork_kept s new steps slot child items prepared trap ends only copied last
+kept s new steps slot (PlanPut address status items) trap most step ends short (put, is, last) =
+    set_kept s new steps slot (PlanPut address status items) trap ends ends.keeps_sound
+    (ap (λ (h : Held PlantState). h.records) last ∙ ap (λ (q : Records). with_items q items) is.records) (ap (λ (h : Held PlantState). h.rest) last ∙ is.rest)
 
 -- and the trap is left
 pub carried_sound : (s new : PlantState) (steps slot : ℕ) (plan : Planned) → IsInTrap s steps → s.shape.budget ≤ 2000000 → HasStep plan steps s.steps
@@ -230,3 +253,5 @@ has_room s steps (PlanOnce items) trap step room = tt
 has_room s steps (PlanWrite tty from len items) trap step room =
     record { each = λ tty low. omega (arith, trap.terminals.bytes tty low, room tty low, step, trap.budget) }
 has_room s steps (PlanGrow count items) trap step room = tt
+has_room s steps (PlanFork child items) trap step room = tt
+has_room s steps (PlanPut address status items) trap step room = tt

@@ -8,18 +8,18 @@ use Rattle.phys_memory.specs.Memory.{words_of}
 use Rattle.record_layouts.specs.declared.term.TermRec.{TermRec}
 use Rattle.record_layouts.specs.declared.proc.ProcRec.{ProcRec}
 use Rattle.record_layouts.specs.declared.patch.PatchItem.{PatchItem}
-use Rattle.record_layouts.specs.Held.{Held}
+use Rattle.record_layouts.specs.Held.{Held, Records, with_items}
 use Rattle.record_layouts.specs.Decode.{tape_by}
 use Rattle.record_layouts.specs.Pages.{pages_of}
-use Rattle.address_space.specs.Spaces.{IsGrown, OnlyPrepares}
+use Rattle.address_space.specs.Spaces.{IsCopied, IsGrown, IsWordPut, OnlyPrepares}
 use Rattle.syscalls.specs.Done.{AreCounted as IsTold, AreCountedBy, AreWritten, IsDone, held_as}
-use Rattle.syscalls.specs.Planned.{PlanGrow, PlanWrite, pages_if}
+use Rattle.syscalls.specs.Planned.{PlanFork, PlanGrow, PlanPut, PlanWrite, pages_if}
 use Rattle.ow_plant.specs.State.{PlantState, risen}
 use Rattle.intent_store.specs.Live.{held_of, records_held, rest_of}
 use Rattle.ow_plant.specs.Images.{tapes_of}
 use Rattle.kernel_traps.specs.Putting.{AreCounted, CountsBytes, counted_after, with_puts}
 use Rattle.kernel_traps.specs.Carrying.{IsCarriedOut, bytes_of}
-use Rattle.kernel_traps.proofs.Preparing.{grown_as, prepares_as}
+use Rattle.kernel_traps.proofs.Preparing.{copied_as, grown_as, prepares_as, put_as}
 use Rattle.kernel_traps.proofs.Stays.{contents_of, pages_beside}
 
 pub own_tape : (s : PlantState) (tty : ℕ) (bytes : List ℕ) → tty < 2 → tapes_of (with_puts s tty bytes) tty ≡ tapes_of s tty ++ bytes
@@ -89,7 +89,7 @@ done s t slot tty from len items process there low counted small (put, is, last)
       ap (λ (h : Held PlantState). h.contents) last ∙ ap (λ (h : Held PlantState). h.contents) is.rest,
     )
 
--- and of pages that were prepared
+-- and of pages that were prepared, behind a heap or for a child
 pub grow_done : (s t : PlantState) (slot count : ℕ) (items : List PatchItem) (process : ProcRec) → (records_held s).procs slot ≡ Some process
     → IsCarriedOut s slot (PlanGrow count items) (held_of t)
     → IsDone (records_held s) (contents_of s) (tapes_of s) slot process (PlanGrow count items) (records_held t) (contents_of t) (tapes_of t)
@@ -102,4 +102,29 @@ grow_done s t slot count items process there (prepared, only, grown, last) =
           (grown_as slot (held_of s) prepared count process its),
       ap (λ (h : Held PlantState). h.records) last,
       ap (λ (h : Held PlantState). tapes_of h.rest) last ∙ ap (λ (p : PlantState). tapes_of p) only.rest,
+    )
+
+pub fork_done : (s t : PlantState) (slot child : ℕ) (items : List PatchItem) (process : ProcRec) → (records_held s).procs slot ≡ Some process
+    → IsCarriedOut s slot (PlanFork child items) (held_of t)
+    → IsDone (records_held s) (contents_of s) (tapes_of s) slot process (PlanFork child items) (records_held t) (contents_of t) (tapes_of t)
+fork_done s t slot child items process there (prepared, only, copied, last) =
+    let its = subst (λ (held : Option ProcRec). IfSome held (IsCopied (held_of s) prepared slot child)) there copied in
+    let words : contents_of t ≡ prepared.contents = ap (λ (h : Held PlantState). h.contents) last in (
+      prepared.records,
+      subst (λ (w : WordMap). OnlyPrepares child (held_as (records_held s) (contents_of s)) (held_as prepared.records w)) (sym words) (prepares_as child (held_of s) prepared only),
+      subst (λ (w : WordMap). IsCopied (held_as (records_held s) (contents_of s)) (held_as prepared.records w) slot child process) (sym words)
+          (copied_as slot child (held_of s) prepared process its),
+      ap (λ (h : Held PlantState). h.records) last,
+      ap (λ (h : Held PlantState). tapes_of h.rest) last ∙ ap (λ (p : PlantState). tapes_of p) only.rest,
+    )
+
+-- and of a word that was stored
+pub put_done : (s t : PlantState) (slot address status : ℕ) (items : List PatchItem) (process : ProcRec)
+    → IsCarriedOut s slot (PlanPut address status items) (held_of t)
+    → IsDone (records_held s) (contents_of s) (tapes_of s) slot process (PlanPut address status items) (records_held t) (contents_of t) (tapes_of t)
+put_done s t slot address status items process (put, is, last) =
+    let words : contents_of t ≡ put.contents = ap (λ (h : Held PlantState). h.contents) last in (
+      subst (λ (w : WordMap). IsWordPut (held_as (records_held s) (contents_of s)) (held_as (records_held s) w) slot address status) (sym words) (put_as slot address status (held_of s) put is),
+      ap (λ (h : Held PlantState). h.records) last ∙ ap (λ (r : Records). with_items r items) is.records,
+      ap (λ (h : Held PlantState). tapes_of h.rest) last ∙ ap (λ (p : PlantState). tapes_of p) is.rest,
     )

@@ -37,7 +37,7 @@ begins s t may =
         shut = may.sound.held.shut;
         records = may.sound.held.records;
         on_terminals = may.sound.held.on_terminals;
-        in_writes = may.sound.held.in_writes;
+        in_built_calls = may.sound.held.in_built_calls;
       };
       a_trap_runs = refl;
       in_kernel = refl;

@@ -1,5 +1,5 @@
 -- What the plan of a trap writes is short: at most 16 bytes, on a terminal that there is.
-use Rattle.std.proofs.Common.{◌≡◌, ◌==◌, ◌||◌, ◌+◌, ◌-◌, ◌<◌, ℕ, nat_lt, false, List, slice_get, Option, Some, None, IfSome, inl, inr, arith}
+use Rattle.std.proofs.Common.{◌≡◌, ◌==◌, ◌||◌, ◌+◌, ◌-◌, ◌<◌, ℕ, nat_lt, false, List, slice_get, Option, Some, None, IfSome, option_and_then, inl, inr, arith}
 use Rattle.std.proofs.lemmas.Bool.{cases_Bool}
 use Rattle.std.proofs.lemmas.Bool.Decides.{nat_tests}
 use Rattle.ow_base.specs.Pages.{Pages, is_readable}
@@ -8,16 +8,20 @@ use Rattle.record_layouts.specs.declared.desc.DescRec.{DescRec}
 use Rattle.record_layouts.specs.declared.head.HeadRec.{HeadRec}
 use Rattle.record_layouts.specs.declared.places.RecordId.TheVariants as id
 use Rattle.record_layouts.specs.declared.proc.ProcRec.{ProcRec}
+use Rattle.record_layouts.specs.declared.sig.SigRec.{SigRec}
+use Rattle.record_layouts.specs.Unix.State.{least_from}
 use Rattle.record_layouts.specs.declared.traps.Trap.{Trap}
 use Rattle.record_layouts.specs.declared.traps.Trap.TheVariants as trap
 use Rattle.record_layouts.specs.Desc.{FitsDesc}
 use Rattle.record_layouts.specs.Held.{AreValues, Records}
-use Rattle.record_layouts.specs.Pages.{pages_of}
+use Rattle.record_layouts.specs.Pages.{page_total, pages_of}
 use Rattle.record_layouts.specs.Unix.Calls.{tty_piece}
 use Rattle.ow_base.specs.UserStep.{register}
+use Rattle.process_table.specs.Children.{child_slot}
 use Rattle.process_table.specs.Patches.{saved_process}
+use Rattle.process_table.specs.Slots.{is_free}
 use Rattle.frame_table.specs.Free.{free_before}
-use Rattle.syscalls.specs.Planned.{argument_of, break_of, caller_with, if_open, is_written, named, named_by, pages_more, planned_call, planned_further, planned_number, planned_of_call, planned_on, planned_piece, planned_sbrk, planned_tty, planned_write, planned_write_on}
+use Rattle.syscalls.specs.Planned.{argument_of, break_of, caller_with, if_open, is_written, named, named_by, pages_more, planned_call, planned_fork, planned_fork_in, planned_further, planned_number, planned_of_call, planned_on, planned_piece, planned_sbrk, planned_take, planned_tty, planned_wait, planned_wait_on, planned_write, planned_write_on, refuses_status}
 use Rattle.ow_plant.specs.State.{PlantState, now_of}
 use Rattle.intent_store.specs.Live.{records_held}
 use Rattle.kernel_traps.specs.Traps.{plan_for}
@@ -80,6 +84,37 @@ module _ (r : Records) (values : AreValues r) (pages : Pages) (slot trap : ℕ) 
     | inr some ↦ rw some tt
   ]
 
+  fork_short : IsShort (planned_fork r (caller_with slot trap head process))
+  unfolding planned_fork
+  fork_short = fork_short_in (least_from (λ place. is_free r (r.procs place)) 0 16) (r.sigs slot) where
+    fork_short_in : (child : Option ℕ) (signals : Option SigRec) → IsShort (planned_fork_in r (caller_with slot trap head process) child signals)
+    fork_short_in (Some child) (Some signals) = elim (cases_Bool (nat_lt 256 head.next)) [
+      | inl none ↦ rw none tt
+      | inr some ↦ elim (cases_Bool (nat_lt (free_before r r.map.user_frames) (page_total process))) [
+        | inl none ↦ rw (some, none) tt
+        | inr room ↦ rw (some, room) tt
+      ]
+    ]
+    fork_short_in (Some child) None = tt
+    fork_short_in None signals = tt
+
+  take_short : (place : ℕ) (child : ProcRec) → IsShort (planned_take (caller_with slot trap head process) place child)
+  take_short place child = elim (cases_Bool (argument_of process 0 == 0)) [
+    | inl none ↦ rw none tt
+    | inr some ↦ rw some tt
+  ]
+
+  wait_short : IsShort (planned_wait r pages (caller_with slot trap head process))
+  unfolding planned_wait
+  wait_short = wait_short_on (child_slot r process.pid) (option_and_then r.procs (child_slot r process.pid)) where
+    wait_short_on : (place : Option ℕ) (child : Option ProcRec) → IsShort (planned_wait_on r pages (caller_with slot trap head process) place child)
+    wait_short_on (Some place) (Some child) = elim (cases_Bool (refuses_status pages (caller_with slot trap head process))) [
+      | inl bad ↦ rw bad tt
+      | inr fine ↦ rw fine (take_short place child)
+    ]
+    wait_short_on (Some place) None = tt
+    wait_short_on None child = tt
+
   number_short : (number : ℕ) → IsShort (planned_number r pages (caller_with slot trap head process) number)
   unfolding planned_number planned_write
   number_short number = elim (cases_Bool (number == 1)) [
@@ -90,9 +125,15 @@ module _ (r : Records) (values : AreValues r) (pages : Pages) (slot trap : ℕ) 
         | inl asks ↦ rw (no_exit, no_write, asks) tt
         | inr no_pid ↦ elim (cases_Bool (number == 8)) [
           | inl grows ↦ rw (no_exit, no_write, no_pid, grows) sbrk_short
-          | inr no_heap ↦ elim (cases_Bool (number == 18)) [
-            | inl yields ↦ rw (no_exit, no_write, no_pid, no_heap, yields) tt
-            | inr none ↦ rw (no_exit, no_write, no_pid, no_heap, none) tt
+          | inr no_heap ↦ elim (cases_Bool (number == 9)) [
+            | inl forks ↦ rw (no_exit, no_write, no_pid, no_heap, forks) fork_short
+            | inr no_fork ↦ elim (cases_Bool (number == 10)) [
+              | inl waits ↦ rw (no_exit, no_write, no_pid, no_heap, no_fork, waits) wait_short
+              | inr no_wait ↦ elim (cases_Bool (number == 18)) [
+                | inl yields ↦ rw (no_exit, no_write, no_pid, no_heap, no_fork, no_wait, yields) tt
+                | inr none ↦ rw (no_exit, no_write, no_pid, no_heap, no_fork, no_wait, none) tt
+              ]
+            ]
           ]
         ]
       ]
@@ -106,7 +147,10 @@ module _ (r : Records) (values : AreValues r) (pages : Pages) (slot trap : ℕ) 
   piece_short : IsShort (planned_of_call r pages (caller_with slot trap head process))
   piece_short = elim (cases_Bool (process.call == 2)) [
     | inl writes ↦ rw writes (further_short (named r process.descs (argument_of process 0)) (named_fits r values process.descs (argument_of process 0)))
-    | inr other ↦ rw other tt
+    | inr no_write ↦ elim (cases_Bool (process.call == 10)) [
+      | inl waits ↦ rw (no_write, waits) wait_short
+      | inr other ↦ rw (no_write, other) tt
+    ]
   ]
 
 -- so is what each trap writes: only a call, or a further piece of one, does

@@ -8,10 +8,10 @@ use Rattle.record_layouts.specs.declared.head.HeadRec.{HeadRec}
 use Rattle.record_layouts.specs.declared.places.RecordId.TheVariants as id
 use Rattle.record_layouts.specs.Decode.{tape_by}
 use Rattle.record_layouts.specs.Held.{AreValues, Held, Records}
-use Rattle.record_layouts.specs.Sound.{AreInWrites, AreOnTerminals, AreSound}
+use Rattle.record_layouts.specs.Sound.{AreInBuiltCalls, AreOnTerminals, AreSound}
 use Rattle.record_layouts.specs.SoundImages.{AreOfTapes, IsServedBefore}
 use Rattle.record_layouts.specs.Values.{are_values}
-use Rattle.syscalls.specs.Planned.{Planned, PlanGrow, PlanOnce, PlanWrite}
+use Rattle.syscalls.specs.Planned.{Planned, PlanFork, PlanGrow, PlanOnce, PlanPut, PlanWrite}
 use Rattle.ow_plant.specs.Images.{AreFronts, tapes_of}
 use Rattle.ow_plant.specs.State.{PlantState, tty_of, Device}
 use Rattle.intent_store.specs.Live.{held_of, map_of, records_held, rest_of}
@@ -22,9 +22,9 @@ use Rattle.kernel_traps.specs.Putting.{IsPut, with_puts}
 use Rattle.kernel_traps.proofs.Carried.{IsKept, IsShort, kept, length-bytes_at, terminals_kept}
 use Rattle.kernel_traps.proofs.LeftSoundTapes.{AreOutByOne, devices_decoded, fronts_put, fronts_same, out_by_one, puts_decoded, tapes_decoded}
 use Rattle.kernel_traps.proofs.OfProcesses.{shown_by}
-use Rattle.kernel_traps.proofs.Preparing.{AreSoundLeft, prepared_left_sound, prepared_terminals, prepared_writes, sound_left}
+use Rattle.kernel_traps.proofs.Preparing.{AreSoundLeft, prepared_left_sound, prepared_terminals, prepared_built_calls, sound_left}
 use Rattle.kernel_traps.proofs.Puts.{puts_beside}
-use Rattle.kernel_traps.proofs.ShownSound.{AreShown, drawn_rows, drawn_terms, on_terminals_too, shown_sound, writes_too}
+use Rattle.kernel_traps.proofs.ShownSound.{AreShown, drawn_rows, drawn_terms, on_terminals_too, shown_sound, built_calls_too}
 use Rattle.kernel_traps.proofs.Terminals.{few_bytes, of_devices}
 
 -- what is left: nothing changes beside records, words and terminals, of which the tapes only grow
@@ -35,7 +35,7 @@ pub record IsHeldLeft (old new : Held PlantState) : Type 0 where
   pub fronts : AreFronts old.rest new.rest
   pub records : AreSoundLeft new.records
   pub on_terminals : AreOnTerminals new.records
-  pub in_writes : AreInWrites new.records
+  pub in_built_calls : AreInBuiltCalls new.records
   pub served : IsServedBefore new.records (old.rest.traps + 1)
   pub terminals : AreOfTapes new.records (λ tty terminal. tape_by (tapes_of new.rest tty) terminal) old.rest.steps
 
@@ -43,20 +43,22 @@ served_too : (held : Option HeadRec) (trap : ℕ) → IfSome held (λ head. head
 served_too (Some head) trap before = omega (arith, before)
 served_too None trap before = tt
 
--- nothing was done
-left_none : (s : PlantState) (steps : ℕ) → IsInTrap s steps → IsHeldLeft (held_of s) (held_of s)
-left_none s steps trap = record {
-  tty0 = s.tty0;
-  tty1 = s.tty1;
-  rest = refl;
-  fronts = fronts_same (rest_of s);
-  records = sound_left (records_held s) trap.held.records;
-  on_terminals = trap.held.on_terminals;
-  in_writes = trap.held.in_writes;
-  served = served_too (records_held s).head s.traps trap.served;
-  terminals = tapes_decoded (rest_of s) (records_held s) (λ tty. (tty_of s tty).tape) s.steps (devices_decoded (rest_of s) (records_held s) trap.terminals.records)
-      (λ tty low. let few = trap.terminals.bytes tty low in omega (arith, few, trap.counted));
-}
+-- no record changes, and nothing else but words
+left_words : (s new : PlantState) (steps : ℕ) → IsInTrap s steps → records_held new ≡ records_held s → rest_of new ≡ rest_of s → IsHeldLeft (held_of s) (held_of new)
+left_words s new steps trap records rest =
+    let still = terminals_kept s new steps trap rest (ap (λ (q : Records). q.terms) records) (ap (λ (q : Records). q.rows) records) in
+    record {
+      tty0 = s.tty0;
+      tty1 = s.tty1;
+      rest = rest;
+      fronts = subst (λ (p : PlantState). AreFronts (rest_of s) p) (sym rest) (fronts_same (rest_of s));
+      records = subst AreSoundLeft (sym records) (sound_left (records_held s) trap.held.records);
+      on_terminals = subst AreOnTerminals (sym records) trap.held.on_terminals;
+      in_built_calls = subst AreInBuiltCalls (sym records) trap.held.in_built_calls;
+      served = subst (λ (q : Records). IfSome q.head (λ head. head.served < s.traps + 1)) (sym records) (served_too (records_held s).head s.traps trap.served);
+      terminals = tapes_decoded (rest_of new) (records_held new) (λ tty. (tty_of new tty).tape) s.steps
+          (devices_decoded (rest_of new) (records_held new) still.records) still.bytes;
+    }
 
 -- pages are prepared, which no record counts
 left_prepared : (s new : PlantState) (steps slot : ℕ) → IsInTrap s steps → OnlyPrepares slot (held_of s) (held_of new) → IsHeldLeft (held_of s) (held_of new)
@@ -72,7 +74,7 @@ left_prepared s new steps slot trap only =
       fronts = subst (λ (p : PlantState). AreFronts (rest_of s) p) (sym only.rest) (fronts_same (rest_of s));
       records = prepared_left_sound slot (held_of s) (held_of new) only trap.held.records;
       on_terminals = subst AreOnTerminals (sym only.records) (prepared_terminals r owners tables trap.held.on_terminals);
-      in_writes = subst AreInWrites (sym only.records) (prepared_writes r owners tables trap.held.in_writes);
+      in_built_calls = subst AreInBuiltCalls (sym only.records) (prepared_built_calls r owners tables trap.held.in_built_calls);
       served = subst (λ (held : Option HeadRec). IfSome held (λ head. head.served < s.traps + 1)) (sym (ap (λ (q : Records). q.head) only.records)) (served_too r.head s.traps trap.served);
       terminals = tapes_decoded (rest_of new) (records_held new) (λ tty. (tty_of new tty).tape) s.steps
           (devices_decoded (rest_of new) (records_held new) still.records) still.bytes;
@@ -88,6 +90,10 @@ carried_fronts s new slot (PlanWrite tty from len items) (put, is, last) =
     subst (λ (p : PlantState). AreFronts (rest_of s) p) (sym rest) (fronts_put (rest_of s) tty (bytes_of s slot from len))
 carried_fronts s new slot (PlanGrow count items) (prepared, only, grown, last) =
     subst (λ (p : PlantState). AreFronts (rest_of s) p) (sym (ap (λ (h : Held PlantState). h.rest) last ∙ only.rest)) (fronts_same (rest_of s))
+carried_fronts s new slot (PlanFork child items) (prepared, only, copied, last) =
+    subst (λ (p : PlantState). AreFronts (rest_of s) p) (sym (ap (λ (h : Held PlantState). h.rest) last ∙ only.rest)) (fronts_same (rest_of s))
+carried_fronts s new slot (PlanPut address status items) (put, is, last) =
+    subst (λ (p : PlantState). AreFronts (rest_of s) p) (sym (ap (λ (h : Held PlantState). h.rest) last ∙ is.rest)) (fronts_same (rest_of s))
 
 left_kept : (s new : PlantState) → IsKept s new → AreFronts (rest_of s) (rest_of new) → IsHeldLeft (held_of s) (held_of new)
 left_kept s new all fronts = record {
@@ -97,7 +103,7 @@ left_kept s new all fronts = record {
   fronts = fronts;
   records = sound_left (records_held new) all.records;
   on_terminals = all.on_terminals;
-  in_writes = all.in_writes;
+  in_built_calls = all.in_built_calls;
   served = subst (λ (held : Option HeadRec). IfSome held (λ head. head.served < s.traps + 1)) (sym all.is_head) (omega (arith, all.served));
   terminals = tapes_decoded (rest_of new) (records_held new) (λ tty. (tty_of new tty).tape) s.steps
       (devices_decoded (rest_of new) (records_held new) all.terminals.records) all.terminals.bytes;
@@ -146,7 +152,7 @@ module _ (s new : PlantState) (steps tty : ℕ) (counted out : List ℕ) (trap :
     fronts = subst (λ (p : PlantState). AreFronts (rest_of s) p) (sym put_rest) (fronts_put (rest_of s) tty out);
     records = sound_left after (subst AreSound (sym put_records) (shown_sound before after.terms after.rows trap.held.records put_shown));
     on_terminals = subst AreOnTerminals (sym put_records) (on_terminals_too before after.terms after.rows trap.held.on_terminals);
-    in_writes = subst AreInWrites (sym put_records) (writes_too before after.terms after.rows trap.held.in_writes);
+    in_built_calls = subst AreInBuiltCalls (sym put_records) (built_calls_too before after.terms after.rows trap.held.in_built_calls);
     served = subst (λ (held : Option HeadRec). IfSome held (λ head. head.served < s.traps + 1)) (sym (ap (λ (q : Records). q.head) put_records))
         (served_too before.head s.traps trap.served);
     terminals = put_tapes;
@@ -160,7 +166,8 @@ module _ (s new : PlantState) (steps slot : ℕ) (trap : IsInTrap s steps) (most
 
   left_partly : (plan : Planned) → HasStep plan steps s.steps → EndsTrap (records_held s) slot s.traps plan → IsShort plan → MayBeLeft s slot plan (held_of new)
       → IsHeldLeft (held_of s) (held_of new)
-  left_partly (PlanOnce items) step ends short (inl same) = subst (λ (h : Held PlantState). IsHeldLeft (held_of s) h) (sym same) (left_none s steps trap)
+  left_partly (PlanOnce items) step ends short (inl same) =
+      left_words s new steps trap (ap (λ (h : Held PlantState). h.records) same) (ap (λ (h : Held PlantState). h.rest) same)
   left_partly (PlanOnce items) step ends short (inr set) = left_carried (PlanOnce items) step ends short set
   left_partly (PlanWrite tty from len items) step ends (low, few) (inl (count, within, inl put)) =
       let bytes = bytes_of s slot from len in
@@ -178,6 +185,12 @@ module _ (s new : PlantState) (steps slot : ℕ) (trap : IsInTrap s steps) (most
   left_partly (PlanWrite tty from len items) step ends short (inr (inr written)) = left_carried (PlanWrite tty from len items) step ends short written
   left_partly (PlanGrow count items) step ends short (inl only) = left_prepared s new steps slot trap only
   left_partly (PlanGrow count items) step ends short (inr grown) = left_carried (PlanGrow count items) step ends short grown
+  left_partly (PlanFork child items) step ends short (inl only) = left_prepared s new steps child trap only
+  left_partly (PlanFork child items) step ends short (inr forked) = left_carried (PlanFork child items) step ends short forked
+  left_partly (PlanPut address status items) step ends short (inl same) =
+      left_words s new steps trap (ap (λ (h : Held PlantState). h.records) same) (ap (λ (h : Held PlantState). h.rest) same)
+  left_partly (PlanPut address status items) step ends short (inr (inl put)) = left_words s new steps trap put.records put.rest
+  left_partly (PlanPut address status items) step ends short (inr (inr waited)) = left_carried (PlanPut address status items) step ends short waited
 
   pub left_of_plan : (plan : Planned) → HasStep plan steps s.steps → EndsTrap (records_held s) slot s.traps plan → IsShort plan → MayBeLeftOfPlan s slot plan new
       → IsHeldLeft (held_of s) (held_of new)

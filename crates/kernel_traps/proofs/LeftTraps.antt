@@ -20,7 +20,7 @@ use Rattle.record_layouts.specs.Unix.Broken.{done_of, undone_of}
 use Rattle.record_layouts.specs.Unix.State.{Unix}
 use Rattle.record_layouts.specs.Unix.Traps.{after_trap, or_zero, pid_of, steps_in}
 use Rattle.syscalls.specs.Done.{IsDone}
-use Rattle.syscalls.specs.Planned.{Planned, PlanGrow, PlanOnce, PlanWrite, pages_in}
+use Rattle.syscalls.specs.Planned.{Planned, PlanFork, PlanGrow, PlanOnce, PlanPut, PlanWrite, pages_in}
 use Rattle.ow_plant.specs.Images.{tapes_of}
 use Rattle.ow_plant.specs.State.{Device, PlantState, handed_over, tty_of}
 use Rattle.intent_store.specs.Live.{held_of, records_held, rest_of}
@@ -31,7 +31,7 @@ use Rattle.kernel_traps.specs.Putting.{AreCounted, IsPut}
 use Rattle.kernel_traps.specs.Traps.{IsDue, IsInMode, IsPlanOf, begun_by, user_before}
 use Rattle.kernel_traps.proofs.Carried.{IsKept, IsShort, kept}
 use Rattle.kernel_traps.proofs.Decoding.{pid_had}
-use Rattle.kernel_traps.proofs.Done.{done as write_done, grow_done}
+use Rattle.kernel_traps.proofs.Done.{done as write_done, fork_done, grow_done, put_done}
 use Rattle.kernel_traps.proofs.Entering.{MayTrap, begins, steps_begun, traps_begun}
 use Rattle.kernel_traps.proofs.LeftPlans.{plan_short}
 use Rattle.kernel_traps.proofs.LeftRecords.{IsContextBy, IsHandedOf, left_by, left_done, left_undone}
@@ -124,6 +124,8 @@ plan_done b new slot steps process (PlanOnce items) trap most there short is =
 plan_done b new slot steps process (PlanWrite tty from len items) trap most there short is =
     write_done b new slot tty from len items process there short.0 (told_on b steps tty trap short.0) (small_by b steps slot tty from len trap most short.0 short.1) is
 plan_done b new slot steps process (PlanGrow count items) trap most there short is = grow_done b new slot count items process there is
+plan_done b new slot steps process (PlanFork child items) trap most there short is = fork_done b new slot child items process there is
+plan_done b new slot steps process (PlanPut address status items) trap most there short is = put_done b new slot address status items process is
 
 -- a trap that has begun on a plant, with its plan
 module _ (s : PlantState) (t : Trap) (may : MayTrap s t) (due : IsDue s t) (slot : ℕ) where
@@ -173,16 +175,16 @@ module _ (s : PlantState) (t : Trap) (may : MayTrap s t) (due : IsDue s t) (slot
       ∙ (undone_with (records_held b) (contents_of b) (tapes_of b) head is_head is_head
       ∙ ap (undone_of t) (unix_beside s (tapes_of s) (context_of s) s.steps s.traps)))
 
-  -- pages are prepared, which nothing counts
-  pub prepared_left : (new : PlantState) (head : HeadRec) → (records_held b).head ≡ Some head → OnlyPrepares slot (held_of b) (held_of new) → unix_left_at new ≡ undone_of t before
+  -- pages of a slot are prepared, which nothing counts
+  pub prepared_left : (place : ℕ) (new : PlantState) (head : HeadRec) → (records_held b).head ≡ Some head → OnlyPrepares place (held_of b) (held_of new) → unix_left_at new ≡ undone_of t before
   unfolding unix_at
-  prepared_left new head is_head only =
+  prepared_left place new head is_head only =
       let now_head : (records_held new).head ≡ Some head = ap (λ (r : Records). r.head) only.records ∙ is_head in
       let tapes : tapes_of new ≡ tapes_of s = ap (λ (p : PlantState). tapes_of p) only.rest in
       left_at b new b.tty0 b.tty1 (by_rest b new b.tty0 b.tty1 only.rest) only.rest
       ∙ (undone_with (records_held new) (contents_of new) (tapes_of new) head now_head is_head
       ∙ ap (undone_of t) (ap (λ (ts : ℕ → List ℕ). unix_of (records_held new) (contents_of new) ts (context_of s) s.steps s.traps) tapes
-      ∙ (prepared_unix slot (held_of b) (held_of new) only in_trap.held.records (tapes_of s) (context_of s) s.steps s.traps
+      ∙ (prepared_unix place (held_of b) (held_of new) only in_trap.held.records (tapes_of s) (context_of s) s.steps s.traps
       ∙ unix_beside s (tapes_of s) (context_of s) s.steps s.traps)))
 
   pub short : (plan : Planned) → IsPlanOf b t slot plan → IsShort plan

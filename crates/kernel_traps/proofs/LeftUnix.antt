@@ -20,7 +20,7 @@ use Rattle.record_layouts.specs.Unix.State.{Terminal, Unix}
 use Rattle.record_layouts.specs.Unix.Traps.{after_trap}
 use Rattle.process_table.proofs.Kept.{set_here, set_other}
 use Rattle.syscalls.specs.Done.{AreCountedBy, AreWritten}
-use Rattle.syscalls.specs.Planned.{Planned, PlanGrow, PlanOnce, PlanWrite, pages_if}
+use Rattle.syscalls.specs.Planned.{Planned, PlanFork, PlanGrow, PlanOnce, PlanPut, PlanWrite, pages_if}
 use Rattle.syscalls.proofs.Written.{terminals_then}
 use Rattle.ow_plant.specs.declared.refusal.Refusal.TheVariants as refusal
 use Rattle.ow_plant.specs.Images.{tapes_of}
@@ -40,6 +40,7 @@ use Rattle.kernel_traps.proofs.LeftTraps.{all_left, below, counted_there, in_tra
 use Rattle.kernel_traps.proofs.OfProcesses.{same_terms}
 use Rattle.kernel_traps.proofs.LeftRecords.{left_by}
 use Rattle.kernel_traps.proofs.Puts.{puts_beside}
+use Rattle.kernel_traps.proofs.StatusLeft.{status_left}
 use Rattle.kernel_traps.proofs.Stays.{contents_of, pages_beside, unix_beside}
 use Rattle.kernel_traps.proofs.TrapKinds.{trap_ends}
 use Rattle.kernel_traps.proofs.TrapUnix.{by_rest}
@@ -147,8 +148,13 @@ module _ (s : PlantState) (t : Trap) (may : MayTrap s t) (due : IsDue s t) (slot
   of_store (PlanWrite tty from len items) new is (inl partly) = part_left tty from len items new is (put_to (held_of b) (held_of new) tty (bytes_of b slot from len) partly)
   of_store (PlanWrite tty from len items) new is (inr (inl put)) = part_left tty from len items new is (put_all (held_of b) (held_of new) tty (bytes_of b slot from len) put)
   of_store (PlanWrite tty from len items) new is (inr (inr carried)) = all_done (PlanWrite tty from len items) new is carried
-  of_store (PlanGrow count items) new is (inl only) = IsUndone (prepared_left s t may due slot new is.head is.is_head only)
+  of_store (PlanGrow count items) new is (inl only) = IsUndone (prepared_left s t may due slot slot new is.head is.is_head only)
   of_store (PlanGrow count items) new is (inr carried) = all_done (PlanGrow count items) new is carried
+  of_store (PlanFork child items) new is (inl only) = IsUndone (prepared_left s t may due slot child new is.head is.is_head only)
+  of_store (PlanFork child items) new is (inr carried) = all_done (PlanFork child items) new is carried
+  of_store (PlanPut address status items) new is (inl same) = IsUndone (nothing_left s t may due slot new is.head is.is_head same)
+  of_store (PlanPut address status items) new is (inr (inl put)) = status_left s t may due slot address status items new is put
+  of_store (PlanPut address status items) new is (inr (inr carried)) = all_done (PlanPut address status items) new is carried
 
   of_plan : (plan : Planned) (new : PlantState) → IsPlanOf b t slot plan → MayBeLeftOfPlan b slot plan new → IsBrokenFrom t before (unix_left_at new)
   of_plan plan new is (inl (store, left)) = of_store plan new is left

@@ -46,5 +46,8 @@ pub mod Entries
 pub mod LeftRecords
 pub mod LeftPut
 pub mod LeftTraps
+pub mod WordsLeft
+pub mod TakenChild
+pub mod StatusLeft
 pub mod LeftUnix
 pub mod LeftTurns

@@ -1,9 +1,6 @@
 -- Where pages are only prepared, records are as sound as they were but for their tables, and stand for the same state.
 use Rattle.std.proofs.Common.{◌≡◌, ◌∙◌, ◌==◌, ◌&&◌, ◌+◌, ◌<◌, ℕ, true, if◌then◌else◌, List, [], ◌∷◌, Option, Some, None, is_some, inl, inr, refl, sym, ap, subst, arith}
 use Rattle.std.proofs.lemmas.Bool.{cases_eq}
-use Rattle.std.proofs.lemmas.Bool.Decides.{nat_tests}
-use Rattle.ow_base.specs.Sv32.{WordMap}
-use Rattle.record_layouts.specs.declared.head.HeadRec.{HeadRec}
 use Rattle.record_layouts.specs.declared.memory_map.MemoryMap.{MemoryMap}
 use Rattle.record_layouts.specs.declared.patch.AnyRec.{AnyRec}
 use Rattle.record_layouts.specs.declared.patch.AnyRec.TheVariants as any
@@ -11,18 +8,19 @@ use Rattle.record_layouts.specs.declared.patch.PatchItem.{PatchItem}
 use Rattle.record_layouts.specs.declared.places.RecordId.{RecordId}
 use Rattle.record_layouts.specs.declared.places.RecordId.TheVariants as id
 use Rattle.record_layouts.specs.declared.proc.ProcRec.{ProcRec}
-use Rattle.record_layouts.specs.declared.sig.SigRec.{SigRec}
 use Rattle.record_layouts.specs.Decode.{Context, InKernel, InUser, decodes, ended_of, handlers_of, is_number, is_pending, last_by, pid_in, position_by, process_at, process_by, process_in, process_of, processes_of, slot_by, unix_of, with_bank}
 use Rattle.record_layouts.specs.Held.{AreComplete, AreValues, Held, Records, with_items, with_record}
 use Rattle.record_layouts.specs.Pages.{is_linked, is_live, is_mapped, low_place, high_place, region_of, frame_of, table_frame}
-use Rattle.record_layouts.specs.Sound.{AreInCalls, AreInWrites, AreNumbered, AreOnTerminals, AreSound, HaveFrames, IsIn, IsInCall, IsTransfer}
+use Rattle.record_layouts.specs.Sound.{AreInCalls, AreInBuiltCalls, AreNumbered, AreOnTerminals, AreSound, HaveFrames, IsIn, IsInCall, IsTransfer}
 use Rattle.record_layouts.specs.Unix.State.{Process}
 use Rattle.ow_base.specs.Entries.{pointer_word}
 use Rattle.frame_table.proofs.Counting.{fits_there}
 use Rattle.frame_table.proofs.Kept.{frame_kept, pages_kept}
-use Rattle.frame_table.proofs.Tables.{HasFrame, HasNone, is_there, mapped_frames, mapped_where_held, page_case}
+use Rattle.frame_table.proofs.Tables.{HasFrame, HasNone, mapped_frames, mapped_where_held, page_case}
 use Rattle.frame_table.specs.Free.{is_table_word_of}
-use Rattle.address_space.specs.Spaces.{IsGrown, OnlyPrepares}
+use Rattle.address_space.specs.Spaces.{IsCopied, IsGrown, IsWordPut, OnlyPrepares}
+use Rattle.frame_table.specs.Maps.{framed_pages}
+use Rattle.record_layouts.specs.Unix.Spaces.{with_word}
 use Rattle.syscalls.specs.Done.{held_as}
 use Rattle.kernel_traps.proofs.UnixBy.{unix_by, unix_is}
 
@@ -111,8 +109,8 @@ module _ (r : Records) (owners : ℕ → ℕ) (tables : (slot table word : ℕ) 
   pub prepared_terminals : AreOnTerminals r → AreOnTerminals other
   prepared_terminals on = record { each = λ slot process is fd within named. on.each slot process (was_in slot process is) fd within named }
 
-  pub prepared_writes : AreInWrites r → AreInWrites other
-  prepared_writes writes = record { each = λ slot process is state. writes.each slot process (was_in slot process is) state }
+  pub prepared_built_calls : AreInBuiltCalls r → AreInBuiltCalls other
+  prepared_built_calls writes = record { each = λ slot process is state. writes.each slot process (was_in slot process is) state }
 
   pub prepared_sound : AreSound r → HaveFrames other → AreSoundLeft other
   prepared_sound sound frames = record {
@@ -146,6 +144,20 @@ module _ {Rest : Type 0} (slot : ℕ) (h new : Held Rest) where
 
   pub grown_as : (count : ℕ) (process : ProcRec) → IsGrown h new slot count process → IsGrown (held_as h.records h.contents) (held_as new.records new.contents) slot count process
   grown_as count process grown = record { pages = grown.pages; mapped = grown.mapped; tables = grown.tables }
+
+pub copied_as : {Rest : Type 0} (slot child : ℕ) (h new : Held Rest) (process : ProcRec) → IsCopied h new slot child process
+    → IsCopied (held_as h.records h.contents) (held_as new.records new.contents) slot child process
+copied_as slot child h new process copied = record { pages = copied.pages; mapped = copied.mapped; clean = copied.clean }
+
+pub put_as : {Rest : Type 0} (slot address status : ℕ) (h new : Held Rest) → IsWordPut h new slot address status
+    → IsWordPut (held_as h.records h.contents) (held_as h.records new.contents) slot address status
+put_as slot address status h new put = record {
+  records = refl;
+  pages = subst (λ (r : Records). framed_pages r new.contents slot ≡ with_word (framed_pages h.records h.contents slot) address status) put.records put.pages;
+  contents = put.contents;
+  disk = refl;
+  rest = refl;
+}
 
 -- the processes of the records are what they were
 module _ {Rest : Type 0} (slot : ℕ) (h new : Held Rest) (only : OnlyPrepares slot h new) (sound : AreSound h.records) where

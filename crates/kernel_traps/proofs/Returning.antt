@@ -33,7 +33,7 @@ returned_sound s slot process sound is = record {
     shut = sound.held.shut;
     records = sound.held.records;
     on_terminals = sound.held.on_terminals;
-    in_writes = sound.held.in_writes;
+    in_built_calls = sound.held.in_built_calls;
   };
   no_trap_runs = sound.no_trap_runs;
   served = sound.served;

@@ -9,7 +9,7 @@ use Rattle.record_layouts.specs.declared.row.RowRec.{RowRec}
 use Rattle.record_layouts.specs.Held.{AreComplete, AreValues, Records}
 use Rattle.record_layouts.specs.Row.{FitsRow}
 use Rattle.record_layouts.specs.Term.{FitsTerm}
-use Rattle.record_layouts.specs.Sound.{AreInCalls, AreInWrites, AreMapped, AreNumbered, AreOnTerminals, AreSound, IsIn, IsInCall, IsTransfer}
+use Rattle.record_layouts.specs.Sound.{AreInCalls, AreInBuiltCalls, AreMapped, AreNumbered, AreOnTerminals, AreSound, IsIn, IsInCall, IsTransfer}
 use Rattle.syscalls.proofs.Altered.{mapped_stays}
 use Rattle.tty_screen.specs.Drawing.{IsRowOf}
 use Rattle.kernel_traps.specs.Putting.{AreDrawn}
@@ -96,8 +96,8 @@ module _ (r : Records) (terms : ℕ → Option TermRec) (rows : ℕ → Option R
   pub on_terminals_too : AreOnTerminals r → AreOnTerminals (shown_by r terms rows)
   on_terminals_too on = record { each = λ slot process is fd within named. on.each slot process (was_in slot process is) fd within named }
 
-  pub writes_too : AreInWrites r → AreInWrites (shown_by r terms rows)
-  writes_too writes = record { each = λ slot process is state. writes.each slot process (was_in slot process is) state }
+  pub built_calls_too : AreInBuiltCalls r → AreInBuiltCalls (shown_by r terms rows)
+  built_calls_too writes = record { each = λ slot process is state. writes.each slot process (was_in slot process is) state }
 
 -- the terminals and rows decode in which bytes are drawn
 module _ (tty : ℕ) (bytes : List ℕ) (old new : Records) (drawn : AreDrawn tty bytes old new) (complete : AreComplete old) where

@@ -35,7 +35,7 @@ image_sound s sound = record {
   shut = sound.held.shut;
   records = sound.held.records;
   on_terminals = sound.held.on_terminals;
-  in_writes = sound.held.in_writes;
+  in_built_calls = sound.held.in_built_calls;
   served = sound.served;
   terminals = are_of_tapes s s.steps sound.terminals;
 }

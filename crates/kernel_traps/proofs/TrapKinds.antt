@@ -32,7 +32,7 @@ use Rattle.process_table.proofs.Seats.{found_in}
 use Rattle.process_table.proofs.Signalling.{signal_unix}
 use Rattle.syscalls.specs.declared.service.Service.{Service}
 use Rattle.syscalls.specs.Done.{IsDone}
-use Rattle.syscalls.specs.Planned.{Planned, PlanGrow, PlanOnce, PlanWrite, caller_with, planned_call, planned_number, planned_of_call, planned_piece}
+use Rattle.syscalls.specs.Planned.{Planned, PlanFork, PlanGrow, PlanOnce, PlanPut, PlanWrite, caller_with, planned_call, planned_number, planned_of_call, planned_piece}
 use Rattle.syscalls.specs.Serving.{CanCall, IsDoable, plan_of}
 use Rattle.syscalls.proofs.Becoming.{caller_decodes}
 use Rattle.syscalls.proofs.Exported.{entered_then, goes_on_then}
@@ -101,24 +101,24 @@ signals_there s slot process signal sound is goes =
 ends_for : (s : PlantState) (t : Trap) (slot : ℕ) (head : HeadRec) (process : ProcRec) → IsHeldSound s → (records_held s).head ≡ Some head → CanHave (records_held s) t slot process
     → EndsTrap (records_held s) slot (risen s.traps) (plan_for (begun_by s t) t slot head process)
 ends_for s (trap.Entry pid) slot head process sound is_head has =
-    call_ends (records_held s) (words_of s.memory) slot (risen s.traps) head process s.bank sound.records sound.in_writes is_head has.seat.0 has.suits
+    call_ends (records_held s) (words_of s.memory) slot (risen s.traps) head process s.bank sound.records sound.in_built_calls is_head has.seat.0 has.suits
     (eight_held s slot process has.seat.0.there)
 ends_for s (trap.Piece pid) slot head process sound is_head has =
-    piece_ends (records_held s) (words_of s.memory) slot (risen s.traps) head process sound.records sound.in_writes is_head has.seat.0 has.suits
+    piece_ends (records_held s) (words_of s.memory) slot (risen s.traps) head process sound.records sound.in_built_calls is_head has.seat.0 has.suits
 ends_for s (trap.Fault pid cause) slot head process sound is_head has =
-    ended_ends (records_held s) head slot process (0x200 + cause) (risen s.traps) sound.records sound.in_writes is_head has.seat.0 has.suits.1
+    ended_ends (records_held s) head slot process (0x200 + cause) (risen s.traps) sound.records sound.in_built_calls is_head has.seat.0 has.suits.1
 ends_for s (trap.Slice pid) slot head process sound is_head has =
-    saved_ends (records_held s) head slot process s.bank (risen s.traps) sound.records sound.in_writes is_head has.seat.0 has.suits
+    saved_ends (records_held s) head slot process s.bank (risen s.traps) sound.records sound.in_built_calls is_head has.seat.0 has.suits
 ends_for s (trap.Signal pid signal) slot head process sound is_head has =
     let r = records_held s in
     let trap = risen s.traps in
     let (signals, there, next) = signals_there s slot process signal sound has.seat.0 has.suits in
     subst (λ (held : Option SigRec). EndsTrap r slot trap (PlanOnce (signal_items_by head slot process held signal trap))) (sym there)
-    (signal_ends_trap r head slot process signals signal trap sound.records sound.in_writes is_head has.seat.0 there next)
-ends_for s trap.Idle slot head process sound is_head has = served_ends (records_held s) head slot (risen s.traps) process sound.records sound.in_writes is_head has.seat.1
+    (signal_ends_trap r head slot process signals signal trap sound.records sound.in_built_calls is_head has.seat.0 there next)
+ends_for s trap.Idle slot head process sound is_head has = served_ends (records_held s) head slot (risen s.traps) process sound.records sound.in_built_calls is_head has.seat.1
 ends_for s (trap.Closing (Some pid)) slot head process sound is_head has =
-    saved_ends (records_held s) head slot process s.bank (risen s.traps) sound.records sound.in_writes is_head has.seat.0 has.suits
-ends_for s (trap.Closing None) slot head process sound is_head has = served_ends (records_held s) head slot (risen s.traps) process sound.records sound.in_writes is_head has.seat.1
+    saved_ends (records_held s) head slot process s.bank (risen s.traps) sound.records sound.in_built_calls is_head has.seat.0 has.suits
+ends_for s (trap.Closing None) slot head process sound is_head has = served_ends (records_held s) head slot (risen s.traps) process sound.records sound.in_built_calls is_head has.seat.1
 
 -- what a plant stands for, by what the processor has
 pub kernel_unix : (s : PlantState) → s.in_user ≡ false → unix_of (records_held s) (words_of s.memory) (tapes_of s) InKernel s.steps s.traps ≡ unix_at s
@@ -267,6 +267,8 @@ more_steps : (plan : Planned) (before after : ℕ) → after ≡ before + 1 → 
 more_steps (PlanOnce items) before after more = tt
 more_steps (PlanWrite tty from len items) before after more = omega (arith, more)
 more_steps (PlanGrow count items) before after more = tt
+more_steps (PlanFork child items) before after more = tt
+more_steps (PlanPut address status items) before after more = tt
 
 has_step : (s : PlantState) (t : Trap) (slot : ℕ) (head : HeadRec) (process : ProcRec) (after : ℕ) → after ≡ s.steps + steps_in t
     → HasStep (plan_for (begun_by s t) t slot head process) s.steps after
@@ -323,6 +325,9 @@ served_by r slot process (PlanOnce items) sound is = tt
 served_by r slot process (PlanWrite tty from len items) sound is = can_call r slot process sound is
 served_by r slot process (PlanGrow count items) sound is =
     (is.within, ap (λ (held : Option ProcRec). is_some (live_one held)) is.there ∙ live_there process is.live)
+served_by r slot process (PlanFork child items) sound is =
+    (is.within, ap (λ (held : Option ProcRec). is_some (live_one held)) is.there ∙ live_there process is.live)
+served_by r slot process (PlanPut address status items) sound is = is.within
 
 once_served : (r : Records) (slot : ℕ) (plan : Planned) (items : List PatchItem) → plan ≡ PlanOnce items → CanBeServed r slot plan
 once_served r slot plan items is = subst (λ (plan : Planned). CanBeServed r slot plan) (sym is) tt

@@ -13,7 +13,7 @@ use Rattle.record_layouts.specs.declared.traps.Trap.{Trap}
 use Rattle.syscalls.specs.declared.service.Service.{Service}
 use Rattle.syscalls.specs.declared.service.Service.TheVariants as service
 use Rattle.syscalls.specs.Done.{IsDone}
-use Rattle.syscalls.specs.Planned.{Planned, PlanGrow, PlanOnce, PlanWrite, pages_in}
+use Rattle.syscalls.specs.Planned.{Planned, PlanFork, PlanGrow, PlanOnce, PlanPut, PlanWrite, pages_in}
 use Rattle.syscalls.specs.Serving.{IsDoable, plan_of}
 use Rattle.ow_plant.specs.State.{PlantState, left_trap, tty_of, Device}
 use Rattle.intent_store.specs.Live.{held_of, records_held, rest_of}
@@ -25,7 +25,7 @@ use Rattle.kernel_traps.specs.Turning.{IsSameMachine}
 use Rattle.kernel_traps.specs.Traps.{IsTrapMade, begun_by}
 use Rattle.kernel_traps.proofs.Puts.{puts_beside}
 use Rattle.kernel_traps.proofs.Stays.{contents_of, unix_beside}
-use Rattle.kernel_traps.proofs.Done.{done as write_done, grow_done}
+use Rattle.kernel_traps.proofs.Done.{done as write_done, fork_done, grow_done, put_done}
 use Rattle.kernel_traps.proofs.Entering.{MayTrap, begins, steps_begun, traps_begun}
 
 -- what stays of a plant while a plan is carried out
@@ -58,6 +58,10 @@ carrier old new slot (PlanWrite tty from len items) (put, is, last) =
     by_rest old new _ _ (ap (λ (h : Held PlantState). h.rest) last ∙ (ap (λ (h : Held PlantState). h.rest) is.rest ∙ puts_beside (rest_of old) tty (bytes_of old slot from len)))
 carrier old new slot (PlanGrow count items) (prepared, only, grown, last) =
     by_rest old new old.tty0 old.tty1 (ap (λ (h : Held PlantState). h.rest) last ∙ only.rest)
+carrier old new slot (PlanFork child items) (prepared, only, copied, last) =
+    by_rest old new old.tty0 old.tty1 (ap (λ (h : Held PlantState). h.rest) last ∙ only.rest)
+carrier old new slot (PlanPut address status items) (put, is, last) =
+    by_rest old new old.tty0 old.tty1 (ap (λ (h : Held PlantState). h.rest) last ∙ is.rest)
 
 -- the state that the plant stands for, by the words beside its area
 unix_left : (old new : PlantState) → IsCarrier old new → old.in_user ≡ false
@@ -97,6 +101,8 @@ service_done b new slot steps process (service.TtyWrite tty from len patch) trap
     write_done b new slot tty from len patch.items.items process there low
     (told_by_device b tty ((records_held b).terms tty) low (trap.terminals.records tty low)) room is
 service_done b new slot steps process (service.Grow count patch) trap most there doable is = grow_done b new slot count patch.items.items process there is
+service_done b new slot steps process (service.Fork child patch) trap most there doable is = fork_done b new slot child patch.items.items process there is
+service_done b new slot steps process (service.PutStatus address status patch) trap most there doable is = put_done b new slot address status patch.items.items process is
 
 -- a trap is made: the state is the one that its plan makes of the records and tapes
 pub trap_made : (s new : PlantState) (t : Trap) (slot : ℕ) (process : ProcRec) (x : Service) (after : Unix) → MayTrap s t

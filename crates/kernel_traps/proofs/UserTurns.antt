@@ -16,7 +16,7 @@ use Rattle.record_layouts.specs.Held.{Records}
 use Rattle.record_layouts.specs.Pages.{pages_of, table_frame}
 use Rattle.record_layouts.specs.Proc.{FitsProc}
 use Rattle.record_layouts.specs.Reading.{records_in, records_of}
-use Rattle.record_layouts.specs.Sound.{AreInWrites, AreOnTerminals, AreSound, IsIn}
+use Rattle.record_layouts.specs.Sound.{AreInBuiltCalls, AreOnTerminals, AreSound, IsIn}
 use Rattle.record_layouts.specs.SoundImages.{IsServedBefore}
 use Rattle.record_layouts.specs.Unix.Turn.{step_of, stepped, turn_at, user_turn}
 use Rattle.record_layouts.specs.Unix.State.{AtUser, Process, Unix}
@@ -131,7 +131,7 @@ module _ (s : PlantState) (sound : IsSound s) (in_user : s.in_user ≡ true) (sl
         shut = gate_stays s now its_map behind sound.held.shut kept.beside refl;
         records = by_records AreSound sound.held.records;
         on_terminals = by_records AreOnTerminals sound.held.on_terminals;
-        in_writes = by_records AreInWrites sound.held.in_writes;
+        in_built_calls = by_records AreInBuiltCalls sound.held.in_built_calls;
       };
       no_trap_runs = sound.no_trap_runs;
       served = by_records (λ (r : Records). IsServedBefore r (now_of s).trap) sound.served;

@@ -10,7 +10,7 @@ use Rattle.record_layouts.specs.Held.{Records}
 use Rattle.record_layouts.specs.Images.{unix_of_image}
 use Rattle.record_layouts.specs.Pages.{table_frame}
 use Rattle.record_layouts.specs.Decode.{Context, InKernel, InUser}
-use Rattle.record_layouts.specs.Sound.{AreInWrites, AreOnTerminals, AreSound, IsIn}
+use Rattle.record_layouts.specs.Sound.{AreInBuiltCalls, AreOnTerminals, AreSound, IsIn}
 use Rattle.record_layouts.specs.SoundImages.{IsServedBefore}
 use Rattle.record_layouts.specs.Terminals.{IsOfTape}
 use Rattle.record_layouts.specs.Unix.State.{Unix}
@@ -44,7 +44,7 @@ pub record IsHeldSound (s : PlantState) : Type 0 where
   pub shut : gate_held s ≡ Closed
   pub records : AreSound (records_held s)
   pub on_terminals : AreOnTerminals (records_held s)
-  pub in_writes : AreInWrites (records_held s)
+  pub in_built_calls : AreInBuiltCalls (records_held s)
 
 -- the process in user mode is live and outside a call, and the tables in use are those of its slot
 pub record IsRunning (s : PlantState) (slot : ℕ) (process : ProcRec) : Type 0 where

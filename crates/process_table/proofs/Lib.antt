@@ -18,4 +18,6 @@ pub mod Running
 pub mod Chosen
 pub mod Signalling
 pub mod PidSums
+pub mod TakenSlots
 pub mod Descriptors
+pub mod Waiting

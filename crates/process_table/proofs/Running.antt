@@ -12,7 +12,8 @@ use Rattle.record_layouts.specs.declared.desc.DescRec.{DescRec}
 use Rattle.record_layouts.specs.declared.term.TermRec.{TermRec}
 use Rattle.record_layouts.specs.Unix.State.{Process, in_use, is_named, is_named_by, is_among, is_this}
 use Rattle.record_layouts.specs.Unix.Calls.{description_of}
-use Rattle.record_layouts.specs.Unix.Choice.{least_from, is_any, deliverable, is_child_of, is_ended_child_of, has_ended_child, has_child, read_goes_on, goes_on}
+use Rattle.record_layouts.specs.Unix.Children.{has_child, has_ended_child, is_child_of, is_ended_child_of}
+use Rattle.record_layouts.specs.Unix.Choice.{least_from, is_any, deliverable, read_goes_on, goes_on}
 use Rattle.record_layouts.specs.Held.{Records}
 use Rattle.record_layouts.specs.Pages.{is_live}
 use Rattle.record_layouts.specs.Desc.{FitsDesc}
@@ -102,7 +103,7 @@ is_tty r process d fits transfer no_file = elim fits [
 ]
 
 -- a record that decodes
-the_record : {V : Type 0} (held : Option V) → is_some held ≡ true → (value : V) × (held ≡ Some value)
+pub the_record : {V : Type 0} (held : Option V) → is_some held ≡ true → (value : V) × (held ≡ Some value)
 the_record (Some value) there = (value, refl)
 the_record None there = absurd (cc there)
 
@@ -170,7 +171,7 @@ ended_child r parent place (Some process) there child = record { process = proce
 ended_child r parent place None there child = absurd (cc child)
 
 -- a record of an ended process is found by its pid
-ended_place : (r : Records) (place : ℕ) (process : ProcRec) → AreNumbered r → place < 16 → r.procs place ≡ Some process → process.state ≡ 3
+pub ended_place : (r : Records) (place : ℕ) (process : ProcRec) → AreNumbered r → place < 16 → r.procs place ≡ Some process → process.state ≡ 3
     → least_from (λ k. is_ended_as process.pid (r.procs k)) 0 16 ≡ Some place
 ended_place r place process numbered within there state =
     let passes : is_ended_as process.pid (r.procs place) ≡ true = ap (is_ended_as process.pid) there ∙ grind (arith, nat_tests, state) in
@@ -232,7 +233,7 @@ child_by_living r words parent pid (Some p) (inr live) same child =
     let passes : is_live_child parent (r.procs live.slot) ≡ true = ap (is_live_child parent) live.is.there ∙ rw live.is.live own in
     such_found r (is_live_child parent) live.slot live.is.within passes
 
-child_is : (r : Records) (words : WordMap) (tapes : ℕ → List ℕ) (steps traps : ℕ) (parent : ℕ) → AreSound r
+pub child_is : (r : Records) (words : WordMap) (tapes : ℕ → List ℕ) (steps traps : ℕ) (parent : ℕ) → AreSound r
     → has_child (unix_of r words tapes InKernel steps traps) parent ≡ has_such r (is_live_child parent)
 unfolding has_child unix_of processes_of process_of
 child_is r words tapes steps traps parent sound =

@@ -2,6 +2,7 @@
 -- process leaves.
 pub mod Least
 pub mod Slots
+pub mod Children
 pub mod Choosing
 pub mod Patches
 pub mod Meaning

@@ -106,6 +106,66 @@ signal_items head slot process signals signal trap =
     head_item head trap process.pid ∷ process_item slot (signalled_process process signal (handler_of signals signal))
     ∷ record { id = id.Sig slot; rec = any.Sig (without_signal signals signal) } ∷ []
 
+-- the process behind its call, with an answer in a0
+abbrev pub answered_process : ProcRec → (answer : ℕ) → ProcRec
+answered_process process answer = record process {
+  state = 1;
+  call = 0;
+  done = 0;
+  pc = wrapped (process.pc + 4);
+  regs = with_register process.regs 10 answer;
+}
+
+-- a process forks: the head after it, and the child, which is a copy of the process behind its call with another pid and
+-- the process as its parent
+abbrev pub forked_head : HeadRec → (trap pid : ℕ) → HeadRec
+forked_head head trap pid = record head { served = trap; last = pid; next = head.next + 1 }
+
+abbrev pub forked_process : ProcRec → (pid : ℕ) → ProcRec
+forked_process process pid = record (answered_process process 0) { pid = pid; parent = process.pid }
+
+-- the child has the handlers of the process, and no signal is pending
+abbrev pub forked_signals : SigRec → (pid : ℕ) → SigRec
+forked_signals signals pid = record { pid = pid; pending = 0; handlers = signals.handlers }
+
+abbrev pub forked_exit : (child : ℕ) → ExitRec
+forked_exit child = record { state = 1; value = child }
+
+-- the process of a slot is answered with the next pid, under which the child is in its own slot
+unfoldable pub fork_items : HeadRec → (slot child : ℕ) → ProcRec → SigRec → (trap : ℕ) → List PatchItem
+fork_items head slot child process signals trap =
+    record { id = id.Head; rec = any.Head (forked_head head trap process.pid) }
+    ∷ process_item slot (answered_process process head.next) ∷ process_item child (forked_process process head.next)
+    ∷ record { id = id.Sig child; rec = any.Sig (forked_signals signals head.next) }
+    ∷ record { id = id.Exit head.next; rec = any.Exit (forked_exit child) } ∷ []
+
+-- a slot that is free
+abbrev pub free_process : ProcRec
+free_process = record {
+  state = 0;
+  pid = 0;
+  parent = 0;
+  call = 0;
+  done = 0;
+  code_pages = 0;
+  data_pages = 0;
+  brk = 0;
+  procedure = 0;
+  mask = 0;
+  flags = 0;
+  status = 0;
+  descs = replicate 8 0;
+  regs = replicate 31 0;
+  pc = 0;
+  handler_save = blank_bank;
+  crash_save = blank_bank;
+}
+
+-- the process of a slot is answered with the pid of a child that has ended, and the child's slot is free
+unfoldable pub wait_items : HeadRec → (slot : ℕ) → ProcRec → (place pid : ℕ) → (trap : ℕ) → List PatchItem
+wait_items head slot process place pid trap =
+    head_item head trap process.pid ∷ process_item slot (answered_process process pid) ∷ process_item place free_process ∷ []
+
 -- the same of the process in a slot
 abbrev pub IsEnding : Records → (slot status trap : ℕ) → List PatchItem → Type 0
 IsEnding r slot status trap items =

@@ -1,5 +1,5 @@
 -- What the slots hold.
-use Rattle.std.specs.Prelude.{◌≡◌, ℕ, ◌<◌, Bool, true, false, ◌==◌, ◌&&◌, ◌||◌, not, Option, Some, None}
+use Rattle.std.specs.Prelude.{◌≡◌, ℕ, ◌<◌, Bool, true, false, nat_lt, ◌==◌, ◌&&◌, ◌||◌, not, Option, Some, None}
 use Rattle.record_layouts.specs.declared.proc.ProcRec.{ProcRec}
 use Rattle.record_layouts.specs.declared.exit.ExitRec.{ExitRec}
 use Rattle.record_layouts.specs.Unix.Choice.{is_any}
@@ -23,6 +23,11 @@ abbrev pub is_ended_child : (parent : ℕ) → Option ProcRec → Bool
 is_ended_child parent (Some process) = has_ended process && process.parent == parent
 is_ended_child parent None = false
 
+-- the same, with a pid below one
+abbrev pub is_earlier_child : (parent pid : ℕ) → Option ProcRec → Bool
+is_earlier_child parent pid (Some process) = is_ended_child parent (Some process) && nat_lt process.pid pid
+is_earlier_child parent pid None = false
+
 -- one of the sixteen slots holds a record that passes
 unfoldable pub has_such : Records → (test : Option ProcRec → Bool) → Bool
 has_such r test = is_any (λ slot. test (r.procs slot)) 0 16
@@ -32,6 +37,7 @@ abbrev pub is_sought : Sought → Option ProcRec → Bool
 is_sought Sought.Live = is_live_one
 is_sought (Sought.LiveChild parent) = is_live_child parent
 is_sought (Sought.EndedChild parent) = is_ended_child parent
+is_sought (Sought.EarlierChild parent pid) = is_earlier_child parent pid
 
 -- the pid is that of a live process
 abbrev pub is_live_exit : Option ExitRec → Bool

@@ -1,7 +1,7 @@
-//! What the choice and the patches are in the Unix that the records stand for. The functions do nothing: their
-//! contracts are the laws.
+//! What the choice and the patches are in the Unix that the records stand for, and what is counted there. The functions
+//! do nothing: their contracts are the laws.
 
-ghost use Rattle.std.specs.Prelude.{◌≡◌, ℕ, ◌+◌, List, Bool, Some, None};
+ghost use Rattle.std.specs.Prelude.{◌≡◌, ◌↔◌, ℕ, ◌+◌, ◌<◌, nat_le, not, List, Bool, true, false, Option, Some, None};
 ghost use Rattle.ow_base.specs.Sv32.{WordMap};
 ghost use Rattle.ow_base.specs.declared.machine.Bank.{Bank};
 ghost use Rattle.ow_base.specs.declared.machine.Now.{Now};
@@ -9,17 +9,21 @@ ghost use Rattle.record_layouts.specs.declared.head.HeadRec.{HeadRec};
 ghost use Rattle.record_layouts.specs.declared.patch.PatchItem.{PatchItem};
 ghost use Rattle.record_layouts.specs.declared.proc.ProcRec.{ProcRec};
 ghost use Rattle.record_layouts.specs.declared.sig.SigRec.{SigRec};
-ghost use Rattle.record_layouts.specs.Unix.Calls.{ended_as, trapped};
-ghost use Rattle.record_layouts.specs.Unix.Choice.{chosen, deliverable, has_live_process};
-ghost use Rattle.record_layouts.specs.Decode.{Context, InKernel, InUser, call_of, process_of, unix_of};
+ghost use Rattle.record_layouts.specs.Unix.Calls.{ended_as, slots_taken, trapped};
+ghost use Rattle.record_layouts.specs.Unix.Children.{has_child};
+ghost use Rattle.record_layouts.specs.Unix.Choice.{chosen, deliverable, has_live_process, is_any};
+ghost use Rattle.record_layouts.specs.Decode.{Context, InKernel, InUser, call_of, ended_of, process_of, processes_of, unix_of};
 ghost use Rattle.record_layouts.specs.Held.{Records, with_items};
+ghost use Rattle.record_layouts.specs.Pages.{live_one};
 ghost use Rattle.record_layouts.specs.Unix.Signals.{signalled};
 ghost use Rattle.record_layouts.specs.Sound.{AreOnTerminals, AreSound, IsIn};
 ghost use Rattle.record_layouts.specs.Spelling.{IsStatus};
-ghost use Rattle.record_layouts.specs.Unix.State.{Process};
+ghost use Rattle.record_layouts.specs.Unix.State.{Process, sum_from};
 ghost use Rattle.process_table.specs.Choosing.{IsRest, IsWork, keys_of, next_signal, signal_by};
 ghost use Rattle.process_table.specs.Meaning.{IsOf, KeepDescriptors};
-ghost use Rattle.process_table.specs.Patches.{ended_items, saved_items, signal_items};
+ghost use Rattle.process_table.specs.Patches.{ended_items, fork_items, saved_items, saved_process, signal_items, wait_items};
+ghost use Rattle.process_table.specs.Children.{IsWaited, child_slot};
+ghost use Rattle.process_table.specs.Slots.{IsFull, has_such, is_free, is_live_child, is_live_pid};
 ghost use Rattle.process_table.specs.declared.choice.Choice.{Choice};
 
 /// A process that ends by records has ended in the Unix, with this status word. The processor was in the kernel or in
@@ -81,8 +85,8 @@ pub const fn sound_records_stay_sound()
         → AreSound (with_items r (signal_items head slot process signals signal trap)) }
 {}
 
-/// Processes that are live once a patch of this crate is set were live before, with the same descriptors, and these name
-/// what they named.
+/// Processes that are live once a patch of this crate is set have the descriptors that they, or the parent of a child
+/// that is made, had before, and these name what they named.
 pub const fn patches_keep_descriptors()
     ensures ended { (r : Records) (head : HeadRec) (slot : ℕ) (process : ProcRec) (status trap : ℕ)
         → AreSound r → IsIn r slot process → KeepDescriptors r (ended_items head slot process status trap) }
@@ -91,6 +95,48 @@ pub const fn patches_keep_descriptors()
     ensures signalled { (r : Records) (head : HeadRec) (slot : ℕ) (process : ProcRec) (signals : SigRec) (signal trap : ℕ)
         → AreSound r → r.head ≡ Some head → IsIn r slot process → r.sigs slot ≡ Some signals
         → KeepDescriptors r (signal_items head slot process signals signal trap) }
+    ensures forked { (r : Records) (head : HeadRec) (slot child : ℕ) (process : ProcRec) (bank : Bank) (signals : SigRec) (trap : ℕ)
+        → IsIn r slot process → live_one (r.procs child) ≡ None
+        → KeepDescriptors r (fork_items head slot child (saved_process process bank) signals trap) }
+    ensures waited { (r : Records) (head : HeadRec) (slot : ℕ) (process : ProcRec) (bank : Bank) (place pid trap : ℕ)
+        → IsIn r slot process → KeepDescriptors r (wait_items head slot (saved_process process bank) place pid trap) }
     ensures terminals { (r : Records) (items : List PatchItem) → KeepDescriptors r items → AreOnTerminals r
         → AreOnTerminals (with_items r items) }
+{}
+
+/// What is summed over the pids of live processes can be summed over their slots: there a slot has as its value the
+/// weight of its process, and nothing where no process is live.
+pub const fn sums_over_pids_are_over_slots()
+    ensures { (r : Records) (words : WordMap) (context : Context) (weight : Option Process → ℕ) (value : (slot : ℕ) → ℕ)
+        → AreSound r → weight None ≡ 0
+        → ((slot : ℕ) (process : ProcRec) → IsIn r slot process → weight (processes_of r words context process.pid) ≡ value slot)
+        → ((slot : ℕ) → slot < 16 → live_one (r.procs slot) ≡ None → value slot ≡ 0)
+        → sum_from (λ pid. weight (processes_of r words context pid)) 1 256 ≡ sum_from value 0 16 }
+{}
+
+/// All slots are taken in the Unix exactly where by records none can be taken.
+pub const fn all_slots_are_taken()
+    ensures taken { (r : Records) (words : WordMap) (tapes : ℕ → List ℕ) (context : Context) (steps traps : ℕ) → AreSound r
+        → nat_le 16 (slots_taken (unix_of r words tapes context steps traps)) ≡ not (is_any (λ slot. is_free r (r.procs slot)) 0 16) }
+    ensures full { (r : Records) → is_any (λ slot. is_free r (r.procs slot)) 0 16 ≡ false ↔ IsFull r }
+{}
+
+/// A process that has ended and whose parent is live is an ended child in the Unix, under its pid, which no live process
+/// has.
+pub const fn ended_children_keep_slots()
+    ensures child { (r : Records) (words : WordMap) (context : Context) (slot : ℕ) (process : ProcRec)
+        → AreSound r → slot < 16 → r.procs slot ≡ Some process → process.state ≡ 3 → is_live_pid r process.parent ≡ true
+        → ended_of r (processes_of r words context) process.pid ≡ Some (record { parent = process.parent; status = process.status }) }
+    ensures apart { (r : Records) (words : WordMap) (context : Context) (slot : ℕ) (process : ProcRec)
+        → AreSound r → r.procs slot ≡ Some process → process.state ≡ 3 → processes_of r words context process.pid ≡ None }
+{}
+
+/// The child that a process waits for by records is the one that it waits for in the Unix, and it has a child that goes
+/// on by records exactly where it has in the Unix.
+pub const fn waits_agree()
+    ensures child { (r : Records) (words : WordMap) (tapes : ℕ → List ℕ) (context : Context) (steps traps : ℕ) (slot : ℕ) (process : ProcRec)
+        → AreSound r → IsIn r slot process
+        → IsWaited r (unix_of r words tapes context steps traps) process.pid (child_slot r process.pid) }
+    ensures live { (r : Records) (words : WordMap) (tapes : ℕ → List ℕ) (context : Context) (steps traps : ℕ) (parent : ℕ) → AreSound r
+        → has_child (unix_of r words tapes context steps traps) parent ≡ has_such r (is_live_child parent) }
 {}

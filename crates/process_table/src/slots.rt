@@ -6,7 +6,7 @@ ghost use Rattle.process_table.specs.Slots.{IsFull, IsLeastFree, has_such, is_fr
 use record_layouts::{PIDS_END, ProcRec, RecordView, SLOTS};
 
 // The states of a free slot, of a process outside a call and of one that has ended.
-const FREE: u32 = 0;
+pub(crate) const FREE: u32 = 0;
 
 pub(crate) const OUTSIDE: u32 = 1;
 
@@ -21,6 +21,8 @@ pub(crate) enum Sought {
     LiveChild(u32),
     /// It has ended, is a child of this pid and was not waited for.
     EndedChild(u32),
+    /// The same, and its own pid is below one.
+    EarlierChild { parent: u32, pid: u32 },
 }
 
 impl Sought {
@@ -31,6 +33,9 @@ impl Sought {
             Sought::Live => process.is_live(),
             Sought::LiveChild(parent) => process.is_live() && process.parent == parent,
             Sought::EndedChild(parent) => process.has_ended() && process.parent == parent,
+            Sought::EarlierChild { parent, pid } => {
+                process.has_ended() && process.parent == parent && process.pid < pid
+            }
         }
     }
 }

@@ -14,7 +14,7 @@ use Rattle.record_layouts.specs.LeftImages.{unix_left, with_left}
 use Rattle.record_layouts.specs.Overlay.{Area, area_at, gate_of, or_zero, overlay}
 use Rattle.record_layouts.specs.Reading.{is_readable_gate, records_in, records_of}
 use Rattle.record_layouts.specs.Records.{Records}
-use Rattle.record_layouts.specs.Sound.{AreInCalls, AreInWrites, AreNumbered, AreOnTerminals, HaveFrames}
+use Rattle.record_layouts.specs.Sound.{AreInCalls, AreInBuiltCalls, AreNumbered, AreOnTerminals, HaveFrames}
 use Rattle.record_layouts.specs.SoundImages.{AreOfTapes, IsServedBefore, IsSoundAtPanic}
 use Rattle.record_layouts.proofs.Words.{unix_by_words}
 
@@ -61,7 +61,7 @@ module _ (one other : Image) (alike : AreAlike one other) where
     in_calls = subst AreInCalls same_records is.in_calls;
     mapped = subst HaveFrames same_records is.mapped;
     on_terminals = subst AreOnTerminals same_records is.on_terminals;
-    in_writes = subst AreInWrites same_records is.in_writes;
+    in_built_calls = subst AreInBuiltCalls same_records is.in_built_calls;
     served = subst (λ (r : Records). IsServedBefore r (trap + 1)) same_records is.served;
     counted = is.counted;
     terminals = subst (λ (tapes : ℕ → List ℕ). AreOfTapes (records_of_image other) (λ tty terminal. tape_by (tapes tty) terminal) steps) alike.tapes

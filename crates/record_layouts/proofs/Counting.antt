@@ -1,6 +1,6 @@
 -- What traps count, and what they put on tapes.
 use Rattle.std.proofs.Common.{◌≡◌, ◌∙◌, ◌+◌, ◌-◌, ◌%◌, ◌==◌, ℕ, nat_lt, Bool, true, false, List, [], ◌++◌, Option, Some, None, inl, inr, refl, sym, ap, subst, arith}
-use Rattle.std.specs.Prelude.{if◌then◌else◌, not, slice_index, ◌||◌}
+use Rattle.std.specs.Prelude.{if◌then◌else◌, nat_le, not, slice_index, ◌||◌}
 use Rattle.std.proofs.lemmas.Bool.{cases_Bool}
 use Rattle.std.proofs.lemmas.Bool.Decides.{nat_tests}
 use Rattle.std.proofs.lemmas.List.{append-nil}
@@ -8,14 +8,15 @@ use Rattle.ow_base.specs.Words.{minus}
 use Rattle.ow_base.specs.UserStep.{Stepped, Next, Call, Faulted}
 use Rattle.ow_base.specs.Pages.{Pages, is_readable, bytes_at}
 use Rattle.ow_base.specs.declared.machine.Shape.{Shape}
-use Rattle.record_layouts.specs.Unix.State.{Unix, Process, Terminal, Position, AtKernel, AtUser, AtPanic, CallState, Out, In, Object, OnFile, OnTty, Description}
+use Rattle.record_layouts.specs.Unix.State.{most_pids, Unix, Process, Terminal, Position, AtKernel, AtUser, AtPanic, CallState, Out, In, Object, OnFile, OnTty, Description}
 use Rattle.record_layouts.specs.Unix.Choice.{Keys, no_keys, chosen, deliverable, settled, settled_at, settled_on, settled_to, returned_as}
-use Rattle.record_layouts.specs.Unix.Calls.{argument, call_number, trapped, answered, stays_in, ended_as, description_of, tty_piece, tty_write, written_to, written_on, write_on, write_through, write_entry, exit_entry, getpid_entry, yield_entry, sbrk_entry, called, call_entered, piece_on, continued, piece_by, piece_of}
-use Rattle.record_layouts.specs.Unix.Spaces.{break_of, heap_end, heap_pages, pages_of_all, with_zero_pages}
+use Rattle.record_layouts.specs.Unix.Calls.{argument, call_number, trapped, answered, stays_in, ended_as, description_of, tty_piece, tty_write, written_to, written_on, write_on, write_through, write_entry, exit_entry, getpid_entry, yield_entry, sbrk_entry, fork_entry, slots_taken, with_child, refuses_status, wait_entry, wait_for, waited_by, without_child, called, call_entered, piece_on, continued, piece_by, piece_of}
+use Rattle.record_layouts.specs.Unix.Children.{ended_child, has_child, status_of}
+use Rattle.record_layouts.specs.Unix.Spaces.{break_of, heap_end, heap_pages, pages_of_all, pages_of_one, with_zero_pages}
 use Rattle.record_layouts.specs.Unix.Signals.{signalled, signalled_by}
 use Rattle.record_layouts.specs.Unix.Turn.{closed, idled, step_of, stepped, turn}
 use Rattle.record_layouts.specs.Unix.Traps.{pid_of, trap_of_step, trap_of_user, signal_or_piece_of, trap_if_live, trap_or_idle, trap_at, trap_of_turn, after_trap, instructed, instructed_by, steps_in, turned_by}
-use Rattle.record_layouts.specs.Unix.Broken.{IsBroken, IsBrokenFrom, IsUndone, IsDone, IsPartlyPut, begun_from, done_of, last_after, partly_put, undone_of}
+use Rattle.record_layouts.specs.Unix.Broken.{IsBroken, IsBrokenFrom, IsUndone, IsDone, IsPartlyPut, IsStatusPut, begun_from, done_of, last_after, partly_put, status_put, undone_of}
 use Rattle.record_layouts.specs.declared.traps.Trap.{Trap}
 use Rattle.record_layouts.specs.declared.traps.Trap.TheVariants as trap
 use Rattle.record_layouts.proofs.Turning.{turn_is}
@@ -95,10 +96,45 @@ sbrk_alike u pid p =
     (answered_alike u pid p (minus 12))
     (answered_alike u pid (record p { brk = p.brk + argument p 0; pages = with_zero_pages p.pages (heap_end p.pages) new }) (break_of p))
 
+child_alike : (u : Unix) (pid : ℕ) (p : Process) → AreAlike u (answered (with_child u pid p) pid p u.next_pid)
+unfolding answered
+child_alike u pid p = record { steps = refl; traps = refl; last = refl; tapes = as_they_are u }
+
+fork_alike : (u : Unix) (pid : ℕ) (p : Process) → AreAlike u (fork_entry u pid p)
+unfolding fork_entry
+fork_alike u pid p =
+    let made = answered (with_child u pid p) pid p u.next_pid in
+    let roomy = nat_lt u.room (pages_of_all u.processes + pages_of_one (Some p)) in
+    if_alike u (answered u pid p (minus 11)) (if roomy then answered u pid p (minus 12) else made)
+    (nat_le 16 (slots_taken u) || nat_lt most_pids u.next_pid) (answered_alike u pid p (minus 11))
+    (if_alike u (answered u pid p (minus 12)) made roomy (answered_alike u pid p (minus 12)) (child_alike u pid p))
+
+waited_alike : (u : Unix) (pid : ℕ) (p : Process) (child : ℕ) (waited : Process) → AreAlike u (answered (without_child u child) pid waited child)
+unfolding answered
+waited_alike u pid p child waited = record { steps = refl; traps = refl; last = refl; tapes = as_they_are u }
+
+stays_alike : (u : Unix) (pid : ℕ) (p : Process) (number done : ℕ) → AreAlike u (stays_in u pid p number done)
+unfolding stays_in
+stays_alike u pid p number done = record { steps = refl; traps = refl; last = refl; tapes = as_they_are u }
+
+for_alike : (u : Unix) (pid : ℕ) (p : Process) (child : Option ℕ) → AreAlike u (wait_for u pid p child)
+for_alike u pid p None =
+    if_alike u (stays_in u pid p 10 0) (answered u pid p (minus 10)) (has_child u pid) (stays_alike u pid p 10 0) (answered_alike u pid p (minus 10))
+for_alike u pid p (Some child) =
+    let waited = waited_by p (status_of (u.ended child)) in
+    if_alike u (answered u pid p (minus 14)) (answered (without_child u child) pid waited child) (refuses_status p)
+    (answered_alike u pid p (minus 14)) (waited_alike u pid p child waited)
+
+wait_alike : (u : Unix) (pid : ℕ) (p : Process) → AreAlike u (wait_entry u pid p)
+unfolding wait_entry
+wait_alike u pid p = for_alike u pid p (ended_child u pid)
+
 called_alike : (u : Unix) (pid : ℕ) (p : Process) (number : ℕ) → AreAlike u (called u pid p number)
 unfolding called exit_entry write_entry getpid_entry
 called_alike u pid p number =
-    let rest4 = if number == 18 then yield_entry u pid p else answered u pid p (minus 38) in
+    let rest6 = if number == 18 then yield_entry u pid p else answered u pid p (minus 38) in
+    let rest5 = if number == 10 then wait_entry u pid p else rest6 in
+    let rest4 = if number == 9 then fork_entry u pid p else rest5 in
     let rest3 = if number == 8 then sbrk_entry u pid p else rest4 in
     let rest2 = if number == 7 then getpid_entry u pid p else rest3 in
     let rest1 = if number == 2 then write_entry u pid p else rest2 in
@@ -106,7 +142,9 @@ called_alike u pid p number =
     (if_alike u (write_entry u pid p) rest2 (number == 2) (through_alike u pid p (description_of u p (argument p 0)))
     (if_alike u (getpid_entry u pid p) rest3 (number == 7) (answered_alike u pid p pid)
     (if_alike u (sbrk_entry u pid p) rest4 (number == 8) (sbrk_alike u pid p)
-    (if_alike u (yield_entry u pid p) (answered u pid p (minus 38)) (number == 18) (yield_alike u pid p) (answered_alike u pid p (minus 38))))))
+    (if_alike u (fork_entry u pid p) rest5 (number == 9) (fork_alike u pid p)
+    (if_alike u (wait_entry u pid p) rest6 (number == 10) (wait_alike u pid p)
+    (if_alike u (yield_entry u pid p) (answered u pid p (minus 38)) (number == 18) (yield_alike u pid p) (answered_alike u pid p (minus 38))))))))
 
 -- a state counts a trap more, which may have put bytes on the tapes
 pub record Counts (t : Trap) (u w : Unix) : Type 0 where
@@ -160,7 +198,8 @@ unfolding continued
 piece_alike u pid p number done Out is = absurd (cc is)
 piece_alike u pid p number done (In n d) is =
     let v = trapped u pid in
-    if_alike v (piece_on v pid p d (description_of v p (argument p 0))) v (n == 2) (on (description_of v p (argument p 0))) (itself v) where
+    if_alike v (piece_on v pid p d (description_of v p (argument p 0))) (if n == 10 then wait_entry v pid p else v) (n == 2) (on (description_of v p (argument p 0)))
+    (if_alike v (wait_entry v pid p) v (n == 10) (wait_alike v pid p) (itself v)) where
       on : (o : Option Description) → AreAlike (trapped u pid) (piece_on (trapped u pid) pid p d o)
       on (Some o) = write_alike (trapped u pid) pid p d o.object
       on None = itself (trapped u pid)
@@ -209,10 +248,11 @@ before_alike keys u (trap.Closing pid) = (refl, refl)
 
 -- what is left of a broken trap counts as the trap, from the state that it came from
 left_counts : (t : Trap) (s v : Unix) → IsBrokenFrom t s v → (v.steps ≡ s.steps + steps_in t) × (v.traps ≡ s.traps + 1)
-unfolding undone_of done_of partly_put
+unfolding undone_of done_of partly_put status_put
 left_counts t s v (IsUndone is) = rw is (refl, refl)
 left_counts t s v (IsDone is) = rw is (refl, refl)
 left_counts t s v (IsPartlyPut tty count within is) = rw is (refl, refl)
+left_counts t s v (IsStatusPut pid p child stores is) = rw is (refl, refl)
 
 pub broken_counts : (keys : Keys) (u : Unix) (t : Trap) (v : Unix) → IsBroken keys u t v → (v.steps ≡ u.steps + steps_in t) × (v.traps ≡ u.traps + 1)
 broken_counts keys u t v broken =

@@ -1,5 +1,5 @@
 -- Sums over so many numbers from a first one on.
-use Rattle.std.proofs.Common.{◌≡◌, ◌≢◌, ℕ, zero, suc, ◌+◌, ◌<◌, ◌≤◌, Bool, true, false, nat_le, not, if◌then◌else◌, refl, sym, ap, ◌∙◌, inl, inr, arith}
+use Rattle.std.proofs.Common.{◌≡◌, ◌≢◌, ℕ, zero, suc, ◌+◌, ◌<◌, ◌≤◌, Bool, false, nat_le, not, if◌then◌else◌, refl, sym, ap, ◌∙◌, inl, inr, arith}
 use Rattle.std.proofs.lemmas.Bool.{cases_Bool, cases_eq}
 use Rattle.std.proofs.lemmas.Bool.Decides.{nat_tests}
 use Rattle.record_layouts.specs.Unix.Choice.{is_any}
@@ -20,6 +20,25 @@ sum_none f first (suc count) end sum none =
     let here = none first (omega arith) (omega arith) in
     let behind = sum_none f (first + 1) count end (omega arith) (λ k from to. none k (omega arith) to) in
     omega (arith, here, behind)
+
+pub sum_ones : (f : ℕ → ℕ) (first count end : ℕ) → end ≡ first + count → ((k : ℕ) → first ≤ k → k < end → f k ≡ 1) → sum_from f first count ≡ count
+unfolding sum_from
+sum_ones f first zero end sum one = refl
+sum_ones f first (suc count) end sum one =
+    let here = one first (omega arith) (omega arith) in
+    let behind = sum_ones f (first + 1) count end (omega arith) (λ k from to. one k (omega arith) to) in
+    omega (arith, here, behind)
+
+-- the last number of a sum counts beside the others
+with_last : (f : ℕ → ℕ) (first count last : ℕ) → last ≡ first + count → sum_from f first (suc count) ≡ sum_from f first count + f last
+unfolding sum_from
+with_last f first zero last sum = let same : f last ≡ f first = ap f (omega arith) in omega (arith, same)
+with_last f first (suc count) last sum =
+    let behind = with_last f (first + 1) count last (omega arith) in
+    ap (λ n. f first + n) behind ∙ omega arith
+
+pub sum_more : (f : ℕ → ℕ) (count : ℕ) → sum_from f 0 (suc count) ≡ sum_from f 0 count + f count
+sum_more f count = with_last f 0 count count (omega arith)
 
 -- a sum in which at most one number counts is what this one counts
 pub sum_one : (f : ℕ → ℕ) (n value first count end : ℕ) → end ≡ first + count → first ≤ n → n < end → f n ≡ value

@@ -88,9 +88,9 @@ pub record AreMapped (r : Records) : Type 0 where
   pub mapped : HaveFrames r
   pub clean : HaveCleanTables r
 
--- The calls that take pieces and are built are writes: a process in a call is in one.
-pub record AreInWrites (r : Records) : Type 0 where
-  pub each : (slot : ℕ) (process : ProcRec) → IsIn r slot process → process.state ≡ 2 → process.call ≡ 2
+-- The calls that take pieces and are built are write (2) and wait (10): a process in a call is in one of them.
+pub record AreInBuiltCalls (r : Records) : Type 0 where
+  pub each : (slot : ℕ) (process : ProcRec) → IsIn r slot process → process.state ≡ 2 → (process.call ≡ 2) ⊎ (process.call ≡ 10)
 
 pub record AreSound (r : Records) : Type 0 where
   pub complete : AreComplete r

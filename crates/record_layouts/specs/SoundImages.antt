@@ -8,7 +8,7 @@ use Rattle.record_layouts.specs.Decode.{tape_by}
 use Rattle.record_layouts.specs.Held.{AreComplete, AreValues, Records}
 use Rattle.record_layouts.specs.Images.{gate_of_image, records_of_image}
 use Rattle.record_layouts.specs.Reading.{is_readable_gate}
-use Rattle.record_layouts.specs.Sound.{AreInCalls, AreInWrites, AreNumbered, AreOnTerminals, AreSound, HaveFrames}
+use Rattle.record_layouts.specs.Sound.{AreInCalls, AreInBuiltCalls, AreNumbered, AreOnTerminals, AreSound, HaveFrames}
 use Rattle.record_layouts.specs.Terminals.{IsOfTape}
 
 -- the trap that the head has as served comes before this one
@@ -27,7 +27,7 @@ pub record IsSoundImage (i : Image) (steps coming : ℕ) : Type 0 where
   pub shut : gate_of_image i ≡ Closed
   pub records : AreSound (records_of_image i)
   pub on_terminals : AreOnTerminals (records_of_image i)
-  pub in_writes : AreInWrites (records_of_image i)
+  pub in_built_calls : AreInBuiltCalls (records_of_image i)
   pub served : IsServedBefore (records_of_image i) coming
   pub terminals : AreOfTapes (records_of_image i) (λ tty terminal. i.tapes tty) steps
 
@@ -42,7 +42,7 @@ pub record IsSoundAtPanic (i : Image) (steps trap : ℕ) : Type 0 where
   pub in_calls : AreInCalls (records_of_image i)
   pub mapped : HaveFrames (records_of_image i)
   pub on_terminals : AreOnTerminals (records_of_image i)
-  pub in_writes : AreInWrites (records_of_image i)
+  pub in_built_calls : AreInBuiltCalls (records_of_image i)
   pub served : IsServedBefore (records_of_image i) (trap + 1)
   pub counted : trap < 2 ^ 32 - 1
   pub terminals : AreOfTapes (records_of_image i) (λ tty terminal. tape_by (i.tapes tty) terminal) steps

@@ -1,6 +1,7 @@
 -- The Unix: its states, what calls, signals, turns and traps make of them, what a panic leaves of them and what is made of
 -- that, whole runs and the report. No layout is named here.
 pub mod State
+pub mod Children
 pub mod Choice
 pub mod Calls
 pub mod Spaces

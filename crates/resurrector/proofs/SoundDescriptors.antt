@@ -11,7 +11,7 @@ use Rattle.record_layouts.specs.Decode.{slot_by}
 use Rattle.record_layouts.specs.Held.{Records}
 use Rattle.record_layouts.specs.Images.{records_of_image}
 use Rattle.record_layouts.specs.Left.{HandedOver}
-use Rattle.record_layouts.specs.Sound.{AreInCalls, AreInWrites, AreOnTerminals}
+use Rattle.record_layouts.specs.Sound.{AreInCalls, AreInBuiltCalls, AreOnTerminals}
 use Rattle.record_layouts.specs.SoundImages.{IsSoundAtPanic}
 use Rattle.record_layouts.proofs.Least.{any_found}
 use Rattle.resurrector.specs.Rebuilt.{IsRevived}
@@ -89,8 +89,8 @@ module _ (i : Image) (most broken : ℕ) (sound : IsSoundAtPanic i most broken) 
         subst (λ (p : ProcRec). slice_index p.descs fd ≢ 0 → (d : DescRec) × (next.descs (slice_index p.descs fd - 1) ≡ Some d) × (d.object ≢ 0)) same (described pid slot found fd less) some;
   }
 
-  pub all_in_writes : AreInWrites next
-  all_in_writes = record {
+  pub all_in_built_calls : AreInBuiltCalls next
+  all_in_built_calls = record {
     each = λ slot one there in_call.
         let (pid, found, same) = was_live i most broken sound h counts next next_words is slot one there in
         absurd (outside slot one pid found same in_call);

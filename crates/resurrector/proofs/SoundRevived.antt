@@ -19,7 +19,7 @@ use Rattle.resurrector.specs.Rebuilt.{IsRevived}
 use Rattle.resurrector.specs.Revived.{revived_plan}
 use Rattle.resurrector.specs.RevivedImages.{image_revived}
 use Rattle.resurrector.proofs.Built.{read_as_revived}
-use Rattle.resurrector.proofs.SoundDescriptors.{all_in_calls, all_in_writes, all_on_terminals}
+use Rattle.resurrector.proofs.SoundDescriptors.{all_in_calls, all_in_built_calls, all_on_terminals}
 use Rattle.resurrector.proofs.SoundPids.{all_complete, all_numbered, trap_served}
 use Rattle.resurrector.proofs.SoundScreens.{all_of_tapes}
 use Rattle.resurrector.proofs.SoundTables.{all_mapped}
@@ -57,7 +57,7 @@ module _ (i : Image) (most broken : ℕ) (sound : IsSoundAtPanic i most broken) 
     shut = read.gate;
     records = records_sound;
     on_terminals = all_on_terminals i most broken sound h counts next new is;
-    in_writes = all_in_writes i most broken sound h counts next new is;
+    in_built_calls = all_in_built_calls i most broken sound h counts next new is;
     served = trap_served i most broken sound h counts next new is;
     terminals = all_of_tapes i most broken sound h counts next new is;
   }

@@ -19,7 +19,7 @@ use Rattle.record_layouts.specs.Left.{HandedOver}
 use Rattle.record_layouts.specs.LeftImages.{unix_left, with_left}
 use Rattle.record_layouts.specs.Overlay.{area_at, or_zero}
 use Rattle.record_layouts.specs.Reading.{is_readable_gate, records_in, records_of}
-use Rattle.record_layouts.specs.Sound.{AreInCalls, AreInWrites, AreNumbered, AreOnTerminals, HaveFrames}
+use Rattle.record_layouts.specs.Sound.{AreInCalls, AreInBuiltCalls, AreNumbered, AreOnTerminals, HaveFrames}
 use Rattle.record_layouts.specs.SoundImages.{AreOfTapes, IsServedBefore, IsSoundAtPanic}
 use Rattle.ow_plant.specs.Images.{tapes_of}
 use Rattle.ow_plant.specs.Owning.{left_by}
@@ -84,7 +84,7 @@ module _ (s : PlantState) (armed : IsArmed s) where
     in_calls = subst AreInCalls records_same is.in_calls;
     mapped = subst HaveFrames records_same is.mapped;
     on_terminals = subst AreOnTerminals records_same is.on_terminals;
-    in_writes = subst AreInWrites records_same is.in_writes;
+    in_built_calls = subst AreInBuiltCalls records_same is.in_built_calls;
     served = subst (λ (r : Records). IsServedBefore r (trap + 1)) records_same is.served;
     counted = is.counted;
     terminals = subst (λ (r : Records). AreOfTapes r (λ tty terminal. tape_by ((image_of s).tapes tty) terminal) steps) records_same is.terminals;

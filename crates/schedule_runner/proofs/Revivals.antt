@@ -182,7 +182,7 @@ module _ (old new : PlantState) (h : HandedOver) (broken : IsBroken old h) (made
       shut = image_after.shut;
       records = image_after.records;
       on_terminals = image_after.on_terminals;
-      in_writes = image_after.in_writes;
+      in_built_calls = image_after.in_built_calls;
     };
     no_trap_runs = no_trap_runs;
     served = subst (λ (trap : ℕ). IsServedBefore (records_held after) trap) next_trap image_after.served;

@@ -42,13 +42,13 @@ same_at r owners tables (id.Term tty) = refl
 same_at r owners tables (id.Row index) = refl
 same_at r owners tables (id.Exit pid) = refl
 
-complete_too : (r : Records) (owners : ℕ → ℕ) (tables : (slot table word : ℕ) → ℕ) → AreComplete r → AreComplete (prepared r owners tables)
+pub complete_too : (r : Records) (owners : ℕ → ℕ) (tables : (slot table word : ℕ) → ℕ) → AreComplete r → AreComplete (prepared r owners tables)
 complete_too r owners tables complete one there = ap is_some (same_at r owners tables one) ∙ complete one there
 
-values_too : (r : Records) (owners : ℕ → ℕ) (tables : (slot table word : ℕ) → ℕ) → AreValues r → AreValues (prepared r owners tables)
+pub values_too : (r : Records) (owners : ℕ → ℕ) (tables : (slot table word : ℕ) → ℕ) → AreValues r → AreValues (prepared r owners tables)
 values_too r owners tables values one = subst (λ held. IfSome held (Fits one)) (sym (same_at r owners tables one)) (values one)
 
-places_same : (one other : ProcRec) (table word : ℕ) → SameRegions one other → is_table_place one table word ≡ is_table_place other table word
+pub places_same : (one other : ProcRec) (table word : ℕ) → SameRegions one other → is_table_place one table word ≡ is_table_place other table word
 places_same one other table word same = rw (region_same one other same word, region_same one other same (1024 * high_place + word)) refl
 
 module _ (r : Records) (head : HeadRec) (slot : ℕ) (process after : ProcRec) (trap : ℕ) (sound : AreSound r) (is_head : r.head ≡ Some head) (is : IsIn r slot process)

@@ -84,7 +84,7 @@ child_of_it : (new old : ProcRec) (ps : ℕ → Option Process) (pid : ℕ) (was
     → ended_by (updated ps pid (Some is)) (Some new) ≡ ended_by ps (Some old)
 child_of_it new old ps pid was is there parent status = rw (parent, status) (rw (live_same ps pid was is old.parent there) refl)
 
-child_same : (held : Option ProcRec) (ps : ℕ → Option Process) (pid : ℕ) (was is : Process) → ps pid ≡ Some was → ended_by (updated ps pid (Some is)) held ≡ ended_by ps held
+pub child_same : (held : Option ProcRec) (ps : ℕ → Option Process) (pid : ℕ) (was is : Process) → ps pid ≡ Some was → ended_by (updated ps pid (Some is)) held ≡ ended_by ps held
 child_same (Some process) ps pid was is there = rw (live_same ps pid was is process.parent there) refl
 child_same None ps pid was is there = refl
 

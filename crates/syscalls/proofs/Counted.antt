@@ -131,7 +131,7 @@ over_first r (suc slots) =
     let last = sum_last (total_in r) slots in
     omega (arith, before, last)
 
-decoded_pages : (r : Records) (words : WordMap) (slot : ℕ) (process : ProcRec) → FitsProc process → is_live process ≡ true → unix.pages_of_one (Some (process_of r words slot process)) ≡ page_total process
+pub decoded_pages : (r : Records) (words : WordMap) (slot : ℕ) (process : ProcRec) → FitsProc process → is_live process ≡ true → unix.pages_of_one (Some (process_of r words slot process)) ≡ page_total process
 unfolding process_of pages_of
 decoded_pages r words slot process fits live = all_pages process fits live
 

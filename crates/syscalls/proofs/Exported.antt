@@ -15,7 +15,8 @@ use Rattle.syscalls.specs.Done.{AreCountedFrames, IsDone}
 use Rattle.syscalls.specs.Planned.{planned_call, planned_piece}
 use Rattle.syscalls.specs.Serving.{CanCall, IsInside}
 use Rattle.syscalls.proofs.Becoming.{bank_by, caller_decodes}
-use Rattle.syscalls.proofs.Served.{served_call, served_further}
+use Rattle.syscalls.proofs.Entered.{served_call}
+use Rattle.syscalls.proofs.Further.{served_further}
 
 -- the process of a pid is the one that its records are
 caller_is : (r : Records) (words : WordMap) (context : Context) (slot : ℕ) (process : ProcRec) (p : Process) → AreSound r → IsIn r slot process → IsOf context process.pid

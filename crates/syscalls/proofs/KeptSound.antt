@@ -15,7 +15,7 @@ use Rattle.record_layouts.specs.declared.term.TermRec.{TermRec}
 use Rattle.record_layouts.specs.declared.row.RowRec.{RowRec}
 use Rattle.record_layouts.specs.Unix.Calls.{tty_piece}
 use Rattle.record_layouts.specs.Held.{Records, with_items}
-use Rattle.record_layouts.specs.Pages.{pages_of}
+use Rattle.record_layouts.specs.Pages.{pages_of, page_total}
 use Rattle.record_layouts.specs.Proc.{FitsLive, FitsProc}
 use Rattle.record_layouts.specs.Sound.{IsIn, IsInCall, IsOpenTo, AreSound}
 use Rattle.record_layouts.specs.Spelling.{IsStatus}
@@ -24,12 +24,18 @@ use Rattle.address_space.specs.Spaces.{IsGrown, OnlyPrepares}
 use Rattle.process_table.specs.Patches.{bank_of, ended_items, saved_process}
 use Rattle.process_table.proofs.Ended.{live_fits}
 use Rattle.process_table.proofs.EndedSound.{ended_sound}
-use Rattle.syscalls.specs.Planned.{PlanGrow, answered_process, argument_of, break_of, caller_with, grown_process, if_open, is_written, items_of, named, named_by, pages_more, planned_call, planned_further, planned_number, planned_on, planned_piece, planned_sbrk, planned_tty, planned_write, planned_write_on, staying_process, stopped_answer, written_process, yielded_process}
+use Rattle.syscalls.specs.Planned.{PlanGrow, answered_process, argument_of, break_of, caller_with, grown_process, if_open, is_written, items_of, named, named_by, pages_more, planned_call, planned_further, planned_number, planned_on, planned_piece, planned_sbrk, planned_tty, planned_wait, planned_write, planned_write_on, staying_process, stopped_answer, written_process, yielded_process, planned_fork, planned_fork_in}
 use Rattle.syscalls.specs.Done.{KeepsSound, held_as}
 use Rattle.syscalls.proofs.Becoming.{IsAfter, prepared}
 use Rattle.syscalls.proofs.AfterSound.{after_sound, next_sound}
 use Rattle.syscalls.proofs.Grown.{grown_are_mapped, grown_has}
 use Rattle.syscalls.proofs.Naming.{InWrite, in_write}
+use Rattle.syscalls.proofs.WaitSound.{wait_keeps}
+use Rattle.syscalls.proofs.ForkSound.{fork_keeps}
+use Rattle.syscalls.proofs.ForkPlan.{can_fork}
+use Rattle.process_table.specs.Slots.{is_free}
+use Rattle.record_layouts.specs.Unix.Choice.{least_from}
+use Rattle.record_layouts.specs.declared.sig.SigRec.{SigRec}
 
 -- what a process has that a descriptor of it names a description
 pub record IsNamed (r : Records) (words : List ℕ) (descriptor : ℕ) (d : DescRec) : Type 0 where
@@ -303,6 +309,28 @@ module _ (r : Records) (head : HeadRec) (slot : ℕ) (process : ProcRec) (bank :
         | inr room ↦ rw room (grown_keeps r head slot process bank trap sound is_head is bytes (neither far few room))
       ]
 
+  -- a fork is refused, or makes a child in the first slot that can be taken
+  fork_by : (found : Option ℕ) (own : Option SigRec) → least_from (λ place. is_free r (r.procs place)) 0 16 ≡ found → r.sigs slot ≡ own
+      → KeepsSound r slot process (planned_fork_in r (caller_with slot trap head caller_saved) found own)
+  fork_by None own place signalled = answered_sound r head slot process bank trap sound is_head is (minus 11)
+  fork_by (Some child) None place signalled = answered_sound r head slot process bank trap sound is_head is (minus 11)
+  fork_by (Some child) (Some signals) place signalled = elim (cases_Bool (nat_lt 256 head.next)) [
+    | inl none ↦ rw none (answered_sound r head slot process bank trap sound is_head is (minus 11))
+    | inr left ↦ elim (cases_Bool (nat_lt (free_before r r.map.user_frames) (page_total caller_saved))) [
+      | inl full ↦ rw (left, full) (answered_sound r head slot process bank trap sound is_head is (minus 12))
+      | inr room ↦
+          let can = can_fork r head slot child process signals sound is_head is place signalled (grind (arith, nat_tests, left)) in
+          rw (left, room) (fork_keeps r head slot child process bank signals trap can)
+    ]
+  ]
+
+  fork_by_records : KeepsSound r slot process (planned_fork r (caller_with slot trap head caller_saved))
+  unfolding planned_fork
+  fork_by_records = fork_by (least_from (λ place. is_free r (r.procs place)) 0 16) (r.sigs slot) refl refl
+
+  pub wait_is_kept : KeepsSound r slot process (planned_wait r pages (caller_with slot trap head caller_saved))
+  wait_is_kept = wait_keeps r head slot process bank trap sound is_head is (answered_sound r head slot process bank trap sound is_head is) pages
+
   pub number_keeps : (number : ℕ) → process.state ≡ 1 → length process.descs ≡ 8 → KeepsSound r slot process (planned_number r pages (caller_with slot trap head caller_saved) number)
   unfolding planned_number planned_write
   number_keeps number out eight = elim (cases_Bool (number == 1)) [
@@ -315,9 +343,15 @@ module _ (r : Records) (head : HeadRec) (slot : ℕ) (process : ProcRec) (bank :
         | inl asks ↦ rw (no_exit, no_write, asks) (answered_sound r head slot process bank trap sound is_head is process.pid)
         | inr no_pid ↦ elim (cases_Bool (number == 8)) [
           | inl grows ↦ rw (no_exit, no_write, no_pid, grows) sbrk_keeps
-          | inr no_sbrk ↦ elim (cases_Bool (number == 18)) [
-            | inl yields ↦ rw (no_exit, no_write, no_pid, no_sbrk, yields) (yielded_sound r head slot process bank trap sound is_head is)
-            | inr none ↦ rw (no_exit, no_write, no_pid, no_sbrk, none) (answered_sound r head slot process bank trap sound is_head is (minus 38))
+          | inr no_sbrk ↦ elim (cases_Bool (number == 9)) [
+            | inl forks ↦ rw (no_exit, no_write, no_pid, no_sbrk, forks) fork_by_records
+            | inr no_fork ↦ elim (cases_Bool (number == 10)) [
+              | inl waits ↦ rw (no_exit, no_write, no_pid, no_sbrk, no_fork, waits) wait_is_kept
+              | inr no_wait ↦ elim (cases_Bool (number == 18)) [
+                | inl yields ↦ rw (no_exit, no_write, no_pid, no_sbrk, no_fork, no_wait, yields) (yielded_sound r head slot process bank trap sound is_head is)
+                | inr none ↦ rw (no_exit, no_write, no_pid, no_sbrk, no_fork, no_wait, none) (answered_sound r head slot process bank trap sound is_head is (minus 38))
+              ]
+            ]
           ]
         ]
       ]
@@ -346,5 +380,8 @@ piece_keeps r words slot trap head process sound is_head is state =
     let call : IsInCall r process = sound.in_calls.calls slot process is state in
     elim (eqb_tells process.call 2) [
       | inl (writes, two) ↦ rw writes (write_goes_on r words slot trap head process sound is_head is call (in_write r process sound.values call two))
-      | inr (other, differs) ↦ rw other (nothing_sound r head slot process (bank_of process) trap sound is_head is (λ _. call))
+      | inr (other, differs) ↦ elim (cases_Bool (process.call == 10)) [
+        | inl waits ↦ rw (other, waits) (wait_is_kept r head slot process (bank_of process) trap sound is_head is (pages_of r words slot process))
+        | inr neither_one ↦ rw (other, neither_one) (nothing_sound r head slot process (bank_of process) trap sound is_head is (λ _. call))
+      ]
     ]

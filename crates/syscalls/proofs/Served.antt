@@ -3,13 +3,13 @@ use Rattle.std.proofs.Common.{◌≡◌, ◌==◌, ◌||◌, if◌then◌else◌
 use Rattle.std.proofs.lemmas.Bool.{cases_Bool}
 use Rattle.ow_base.specs.Sv32.{WordMap}
 use Rattle.ow_base.specs.Words.{minus, wrapped}
-use Rattle.ow_base.specs.UserStep.{register, with_register}
+use Rattle.ow_base.specs.UserStep.{with_register}
 use Rattle.ow_base.specs.Pages.{bytes_at, is_readable}
 use Rattle.record_layouts.specs.declared.head.HeadRec.{HeadRec}
 use Rattle.record_layouts.specs.declared.proc.ProcRec.{ProcRec}
 use Rattle.record_layouts.specs.declared.desc.DescRec.{DescRec}
-use Rattle.record_layouts.specs.Unix.State.{Unix, Process, Terminal, In}
-use Rattle.record_layouts.specs.Unix.Calls.{answered, called, continued, description_of, call_entered, exit_entry, piece_by, piece_on, piece_of, sbrk_entry, stays_in, trapped, tty_piece, tty_write, with_process, write_entry, write_on, write_through, written_on, written_to, yield_entry, getpid_entry}
+use Rattle.record_layouts.specs.Unix.State.{Unix, Process, Terminal}
+use Rattle.record_layouts.specs.Unix.Calls.{answered, description_of, exit_entry, piece_on, sbrk_entry, stays_in, trapped, tty_piece, tty_write, with_process, write_on, write_through, written_on, written_to, yield_entry, wait_entry}
 use Rattle.record_layouts.specs.Unix.Spaces.{with_zero_pages}
 use Rattle.record_layouts.specs.Unix.Spaces as unix
 use Rattle.record_layouts.specs.Held.{Records, with_items}
@@ -21,18 +21,19 @@ use Rattle.frame_table.specs.Counts.{pages_of_all}
 use Rattle.frame_table.specs.Free.{free_before}
 use Rattle.frame_table.proofs.Counting.{fits_there}
 use Rattle.address_space.specs.Spaces.{IsGrown, OnlyPrepares}
-use Rattle.process_table.specs.Patches.{bank_of, ended_items, saved_process}
+use Rattle.process_table.specs.Patches.{ended_items, saved_process}
 use Rattle.process_table.proofs.Regions.{SameRegions, pages_same}
 use Rattle.process_table.specs.Meaning.{IsOf}
 use Rattle.process_table.proofs.EndedUnix.{ended_unix}
 use Rattle.process_table.proofs.Endings.{ended_records}
 use Rattle.process_table.proofs.Saving.{set_itself}
 use Rattle.process_table.proofs.Seats.{pid_range}
-use Rattle.syscalls.specs.Planned.{PlanGrow, PlanOnce, PlanWrite, answered_process, argument_of, break_of, caller_with, grown_process, is_written, items_of, named, pages_more, planned_answer, planned_call, planned_further, planned_nothing, planned_number, planned_on, planned_piece, planned_sbrk, planned_tty, planned_write, planned_write_on, staying_process, stopped_answer, written_process, yielded_process}
+use Rattle.syscalls.specs.Planned.{PlanGrow, PlanOnce, PlanWrite, answered_process, argument_of, break_of, caller_with, grown_process, is_written, items_of, named, pages_more, planned_answer, planned_further, planned_nothing, planned_on, planned_sbrk, planned_tty, planned_write_on, staying_process, stopped_answer, written_process, yielded_process, planned_wait}
 use Rattle.syscalls.specs.Done.{AreCountedFrames, AreWritten, IsDone, held_as}
 use Rattle.syscalls.proofs.Becoming.{IsAfter, OthersStay, bank_by, becoming, becomes, becomes_then, caller_decodes, prepared}
 use Rattle.syscalls.proofs.Counted.{all_counted, break_is, heap_ends, room_same}
 use Rattle.syscalls.proofs.Grown.{grown_has, grown_mapped, others_stay}
+use Rattle.syscalls.proofs.WaitUnix.{served_wait}
 use Rattle.syscalls.proofs.Written.{terminals_then}
 use Rattle.syscalls.proofs.Described.{described, described_as, description_is}
 
@@ -219,7 +220,7 @@ module _ (r : Records) (head : HeadRec) (slot : ℕ) (process : ProcRec) (trap :
   served_held (Some d) now now_words now_tapes served = served_on d process.done now now_words now_tapes served
 
   -- write
-  write_by : (held : Option DescRec) (now : Records) (now_words : WordMap) (now_tapes : ℕ → List ℕ)
+  pub write_by : (held : Option DescRec) (now : Records) (now_words : WordMap) (now_tapes : ℕ → List ℕ)
       → IsDone r words tapes slot process (planned_write_on (pages_of r words slot process) (caller_with slot trap head saved) held) now now_words now_tapes
       → Ends now now_words now_tapes (write_through state process.pid caller (described held))
   unfolding planned_write_on
@@ -236,14 +237,14 @@ module _ (r : Records) (head : HeadRec) (slot : ℕ) (process : ProcRec) (trap :
   ]
 
   -- what a descriptor of the caller names
-  names : (fd : ℕ) → description_of state caller fd ≡ described (named r process.descs fd)
+  pub names : (fd : ℕ) → description_of state caller fd ≡ described (named r process.descs fd)
   unfolding description_of trapped unix_of process_of
   names fd =
       let range = pid_range r slot process sound.values is in
       description_is r (processes_of r words context) process.pid caller process.descs fd caller_there refl range.0 range.1
 
   -- exit
-  served_exit : (now : Records) (now_words : WordMap) (now_tapes : ℕ → List ℕ) → IsDone r words tapes slot process (PlanOnce (ended_items head slot saved (argument_of saved 0 % 256) trap)) now now_words now_tapes
+  pub served_exit : (now : Records) (now_words : WordMap) (now_tapes : ℕ → List ℕ) → IsDone r words tapes slot process (PlanOnce (ended_items head slot saved (argument_of saved 0 % 256) trap)) now now_words now_tapes
       → Ends now now_words now_tapes (exit_entry state process.pid caller)
   unfolding ended_items exit_entry unix_of
   served_exit now now_words now_tapes served =
@@ -325,7 +326,7 @@ module _ (r : Records) (head : HeadRec) (slot : ℕ) (process : ProcRec) (trap :
       ∙ (ap (λ (n : ℕ). nat_lt 0x400000 (break_of saved + bytes) || nat_lt user (n + new)) (sym (all_counted r words context sound))
       ∙ ap (λ (a : ℕ). nat_lt 0x400000 (a + bytes) || nat_lt user (unix.pages_of_all (processes_of r words context) + new)) (sym break_there))
 
-  served_sbrk : AreCountedFrames r → (now : Records) (now_words : WordMap) (now_tapes : ℕ → List ℕ)
+  pub served_sbrk : AreCountedFrames r → (now : Records) (now_words : WordMap) (now_tapes : ℕ → List ℕ)
       → IsDone r words tapes slot process (planned_sbrk r (caller_with slot trap head saved)) now now_words now_tapes
       → Ends now now_words now_tapes (sbrk_entry state process.pid caller)
   unfolding planned_sbrk sbrk_entry trapped unix_of process_of
@@ -335,65 +336,10 @@ module _ (r : Records) (head : HeadRec) (slot : ℕ) (process : ProcRec) (trap :
       (rooms_agree counted bytes)
       (sbrk_by (nat_lt 0x400000 (break_of saved + bytes) || nat_lt (free_before r r.map.user_frames) (pages_more saved bytes)) bytes now now_words now_tapes served)
 
-  pub served_number : AreCountedFrames r → (number : ℕ) (now : Records) (now_words : WordMap) (now_tapes : ℕ → List ℕ)
-      → IsDone r words tapes slot process (planned_number r (pages_of r words slot process) (caller_with slot trap head saved) number) now now_words now_tapes
-      → Ends now now_words now_tapes (called state process.pid caller number)
-  unfolding planned_number planned_write called write_entry getpid_entry
-  served_number counted number now now_words now_tapes served = elim (cases_Bool (number == 1)) [
-    | inl exits ↦ rw exits (served_exit now now_words now_tapes (rw exits at served))
-    | inr no_exit ↦ elim (cases_Bool (number == 2)) [
-      | inl writes ↦ rw (no_exit, writes)
-          (write_by (named r process.descs (argument_of saved 0)) now now_words now_tapes (rw (no_exit, writes) at served)
-          ∙ sym (ap (write_through state process.pid caller) (names (argument_of saved 0))))
-      | inr no_write ↦ elim (cases_Bool (number == 7)) [
-        | inl asks ↦ rw (no_exit, no_write, asks) (served_answer process.pid now now_words now_tapes (rw (no_exit, no_write, asks) at served))
-        | inr no_pid ↦ elim (cases_Bool (number == 8)) [
-          | inl grows ↦ rw (no_exit, no_write, no_pid, grows) (served_sbrk counted now now_words now_tapes (rw (no_exit, no_write, no_pid, grows) at served))
-          | inr no_sbrk ↦ elim (cases_Bool (number == 18)) [
-            | inl yields ↦ rw (no_exit, no_write, no_pid, no_sbrk, yields) (served_yield now now_words now_tapes (rw (no_exit, no_write, no_pid, no_sbrk, yields) at served))
-            | inr none ↦ rw (no_exit, no_write, no_pid, no_sbrk, none) (served_answer (minus 38) now now_words now_tapes (rw (no_exit, no_write, no_pid, no_sbrk, none) at served))
-          ]
-        ]
-      ]
-    ]
-  ]
-
-  -- the call that it makes
-  pub served_call : AreCountedFrames r → (now : Records) (now_words : WordMap) (now_tapes : ℕ → List ℕ)
-      → IsDone r words tapes slot process (planned_call r words slot trap head process (bank_by context process)) now now_words now_tapes
-      → Ends now now_words now_tapes (call_entered (unix_of r words tapes context steps traps) process.pid caller)
-  unfolding planned_call call_entered
-  served_call counted now now_words now_tapes served = served_number counted (register (bank_by context process).regs 17) now now_words now_tapes served
-
--- a further piece of the call that a process is in
-module _ (r : Records) (head : HeadRec) (slot : ℕ) (process : ProcRec) (trap : ℕ) (words : WordMap) (tapes : ℕ → List ℕ) (steps traps : ℕ)
-    (sound : AreSound r) (is_head : r.head ≡ Some head) (is : IsIn r slot process) where
-  abbrev in_kernel : Process
-  in_kernel = record (process_of r words slot process) { bank = bank_of process }
-
-  abbrev trapping : Unix
-  trapping = trapped (unix_of r words tapes InKernel steps traps) process.pid
-
-  further : (now : Records) (now_words : WordMap) (now_tapes : ℕ → List ℕ) → IsDone r words tapes slot process (planned_piece r words slot trap head process) now now_words now_tapes
-      → unix_of now now_words now_tapes InKernel (steps + 1) (traps + 1) ≡ continued trapping process.pid in_kernel process.call process.done
-  unfolding planned_piece continued
-  further now now_words now_tapes served = elim (cases_Bool (process.call == 2)) [
-    | inl writes ↦
-        let held = named r process.descs (argument_of process 0) in
-        let description : description_of trapping in_kernel (argument_of process 0) ≡ described held =
-        names r head slot process trap words tapes InKernel steps traps sound is_head is tt (argument_of process 0) in
-        rw writes (served_held r head slot process trap words tapes InKernel steps traps sound is_head is tt held now now_words now_tapes (rw writes at served)
-        ∙ sym (ap (piece_on trapping process.pid in_kernel process.done) description))
-    | inr other ↦ rw other (served_nothing r head slot process trap words tapes InKernel steps traps sound is_head is tt now now_words now_tapes (rw other at served))
-  ]
-
-  call_is : process.state ≡ 2 → in_kernel.call ≡ In process.call process.done
-  unfolding process_of
-  call_is state = rw state refl
-
-  pub served_further : (now : Records) (now_words : WordMap) (now_tapes : ℕ → List ℕ) → process.state ≡ 2
-      → IsDone r words tapes slot process (planned_piece r words slot trap head process) now now_words now_tapes
-      → unix_of now now_words now_tapes InKernel (steps + 1) (traps + 1) ≡ piece_of (unix_of r words tapes InKernel steps traps) process.pid in_kernel
-  unfolding piece_of
-  served_further now now_words now_tapes state served =
-      further now now_words now_tapes served ∙ sym (ap (piece_by (unix_of r words tapes InKernel steps traps) process.pid in_kernel) (call_is state))
+  -- wait
+  pub served_waiting : (now : Records) (now_words : WordMap) (now_tapes : ℕ → List ℕ)
+      → IsDone r words tapes slot process (planned_wait r (pages_of r words slot process) (caller_with slot trap head saved)) now now_words now_tapes
+      → Ends now now_words now_tapes (wait_entry state process.pid caller)
+  served_waiting now now_words now_tapes served =
+      served_wait r head slot process trap words tapes context steps traps sound is_head is of now now_words now_tapes
+      (λ after next once. served_once after now now_words now_tapes next once) served

@@ -1,5 +1,6 @@
--- A further piece of a call changes no word of a page.
-use Rattle.std.proofs.Common.{◌≡◌, ◌==◌, if◌then◌else◌, ℕ, ◌+◌, Bool, true, false, List, Option, Some, None}
+-- A further piece of a write changes no word of a page.
+use Rattle.std.proofs.Common.{◌≡◌, ◌==◌, if◌then◌else◌, ℕ, ◌+◌, Bool, true, false, List, Option, Some, None, arith}
+use Rattle.std.proofs.lemmas.Bool.Decides.{nat_tests}
 use Rattle.ow_base.specs.Sv32.{WordMap}
 use Rattle.ow_base.specs.Pages.{Pages, is_readable}
 use Rattle.record_layouts.specs.declared.head.HeadRec.{HeadRec}
@@ -35,14 +36,14 @@ module _ (r : Records) (words : WordMap) (tapes : ℕ → List ℕ) (slot : ℕ)
       either_stays (d.object == 1) (planned_nothing c) (planned_tty pages c d.index c.process.done) (λ served. served.1) (tty_stays pages c d.index c.process.done)
   further_stays pages c None = λ served. served.1
 
-  call_stays : (pages : Pages) (c : Caller) → StayAt (planned_of_call r pages c)
-  call_stays pages c =
-      let held = named r c.process.descs (argument_of c.process 0) in
-      either_stays (c.process.call == 2) (planned_further pages c held) (planned_nothing c) (further_stays pages c held) (λ served. served.1)
+  write_stays : (pages : Pages) (c : Caller) → c.process.call ≡ 2 → StayAt (planned_of_call r pages c)
+  write_stays pages c writes =
+      let two : (c.process.call == 2) ≡ true = grind (arith, nat_tests, writes) in
+      rw two (further_stays pages c (named r c.process.descs (argument_of c.process 0)))
 
 pub words_stay : (r : Records) (words : WordMap) (tapes : ℕ → List ℕ) (slot trap : ℕ) (head : HeadRec) (process : ProcRec)
-    (done : Records) (done_words : WordMap) (done_tapes : ℕ → List ℕ)
+    (done : Records) (done_words : WordMap) (done_tapes : ℕ → List ℕ) → process.call ≡ 2
     → IsDone r words tapes slot process (planned_piece r words slot trap head process) done done_words done_tapes → done_words ≡ words
 unfolding planned_piece
-words_stay r words tapes slot trap head process done done_words done_tapes served =
-    call_stays r words tapes slot process done done_words done_tapes (pages_of r words slot process) (caller_with slot trap head process) served
+words_stay r words tapes slot trap head process done done_words done_tapes writes served =
+    write_stays r words tapes slot process done done_words done_tapes (pages_of r words slot process) (caller_with slot trap head process) writes served

@@ -8,11 +8,11 @@ use Rattle.record_layouts.specs.declared.row.RowRec.{RowRec}
 use Rattle.record_layouts.specs.Held.{Held, Records, with_items}
 use Rattle.frame_table.specs.Counts.{pages_of_all}
 use Rattle.frame_table.specs.Free.{free_before}
-use Rattle.address_space.specs.Spaces.{IsGrown, OnlyPrepares}
+use Rattle.address_space.specs.Spaces.{IsCopied, IsGrown, IsWordPut, OnlyPrepares}
 use Rattle.record_layouts.specs.Decode.{tape_by}
 use Rattle.record_layouts.specs.Pages.{pages_of}
 use Rattle.record_layouts.specs.Sound.{AreSound}
-use Rattle.syscalls.specs.Planned.{Planned, PlanGrow, PlanOnce, PlanWrite}
+use Rattle.syscalls.specs.Planned.{Planned, PlanFork, PlanGrow, PlanOnce, PlanPut, PlanWrite}
 
 -- Bytes are written on a terminal of which this was the record and the tape: its tape as it decodes has them behind, its
 -- record counts them up to the last number that there is, and what is typed and the last reset stay.
@@ -53,6 +53,11 @@ IsDone r words tapes slot process (PlanWrite tty from len items) done done_words
 IsDone r words tapes slot process (PlanGrow count items) done done_words done_tapes =
     (prepared : Records) × OnlyPrepares slot (held_as r words) (held_as prepared done_words)
     × IsGrown (held_as r words) (held_as prepared done_words) slot count process × (done ≡ with_items prepared items) × (done_tapes ≡ tapes)
+IsDone r words tapes slot process (PlanFork child items) done done_words done_tapes =
+    (prepared : Records) × OnlyPrepares child (held_as r words) (held_as prepared done_words)
+    × IsCopied (held_as r words) (held_as prepared done_words) slot child process × (done ≡ with_items prepared items) × (done_tapes ≡ tapes)
+IsDone r words tapes slot process (PlanPut address value items) done done_words done_tapes =
+    IsWordPut (held_as r words) (held_as r done_words) slot address value × (done ≡ with_items r items) × (done_tapes ≡ tapes)
 
 -- The records of a plan keep records sound: those that there are, and, where bytes are written before, those with other
 -- records of terminals and rows, where these are sound.
@@ -63,3 +68,7 @@ KeepsSound r slot process (PlanWrite tty from len items) = (terms : ℕ → Opti
 KeepsSound r slot process (PlanGrow count items) = (words prepared_words : WordMap) (prepared : Records)
     → OnlyPrepares slot (held_as r words) (held_as prepared prepared_words)
     → IsGrown (held_as r words) (held_as prepared prepared_words) slot count process → AreSound (with_items prepared items)
+KeepsSound r slot process (PlanFork child items) = (words prepared_words : WordMap) (prepared : Records)
+    → OnlyPrepares child (held_as r words) (held_as prepared prepared_words)
+    → IsCopied (held_as r words) (held_as prepared prepared_words) slot child process → AreSound (with_items prepared items)
+KeepsSound r slot process (PlanPut address value items) = AreSound (with_items r items)

@@ -1,8 +1,8 @@
 -- What a call of a process asks for, by its records: which records are set as the trap ends, and which of its bytes are
 -- written on a terminal before.
-use Rattle.std.specs.Prelude.{ℕ, ◌+◌, ◌-◌, ◌*◌, ◌/◌, ◌%◌, Bool, nat_lt, not, ◌==◌, ◌||◌, if◌then◌else◌, List, [], ◌∷◌, slice_get, Option, Some, None}
+use Rattle.std.specs.Prelude.{ℕ, ◌+◌, ◌-◌, ◌*◌, ◌/◌, ◌%◌, Bool, nat_lt, not, ◌==◌, ◌&&◌, ◌||◌, if◌then◌else◌, List, [], ◌∷◌, slice_get, Option, Some, None, option_and_then}
 use Rattle.ow_base.specs.Words.{wrapped, minus}
-use Rattle.ow_base.specs.UserStep.{register, with_register}
+use Rattle.ow_base.specs.UserStep.{register}
 use Rattle.ow_base.specs.Sv32.{WordMap}
 use Rattle.ow_base.specs.Pages.{Pages, is_readable}
 use Rattle.ow_base.specs.declared.machine.Bank.{Bank}
@@ -12,38 +12,40 @@ use Rattle.record_layouts.specs.declared.desc.DescRec.{DescRec}
 use Rattle.record_layouts.specs.declared.patch.PatchItem.{PatchItem}
 use Rattle.record_layouts.specs.Unix.Calls.{tty_piece}
 use Rattle.record_layouts.specs.Held.{Records}
-use Rattle.record_layouts.specs.Pages.{heap_pages, pages_of}
+use Rattle.record_layouts.specs.Pages.{heap_pages, page_total, pages_of}
+use Rattle.record_layouts.specs.Unix.Spaces.{takes_word}
+use Rattle.record_layouts.specs.Unix.State.{least_from}
+use Rattle.record_layouts.specs.declared.sig.SigRec.{SigRec}
 use Rattle.frame_table.specs.Free.{free_before}
 use Rattle.syscalls.specs.declared.caller.Caller.{Caller}
-use Rattle.process_table.specs.Patches.{head_item, process_item, ended_items, saved_process}
+use Rattle.process_table.specs.Children.{child_slot}
+pub use Rattle.process_table.specs.Patches.{answered_process}
+use Rattle.process_table.specs.Patches.{head_item, process_item, ended_items, fork_items, saved_process, wait_items}
+use Rattle.process_table.specs.Slots.{has_such, is_free, is_live_child}
 
 -- records are set at once, or after bytes of the process, so many from an address on, are written on a terminal, or after
--- so many pages are prepared behind its heap
+-- so many pages are prepared behind its heap, or a copy of its pages for the slot of a child, or after a word of it is
+-- stored
 pub data Planned : Type 0 where
   PlanOnce : (items : List PatchItem) → Planned
   PlanWrite : (tty from len : ℕ) (items : List PatchItem) → Planned
   PlanGrow : (count : ℕ) (items : List PatchItem) → Planned
+  PlanFork : (child : ℕ) (items : List PatchItem) → Planned
+  PlanPut : (address value : ℕ) (items : List PatchItem) → Planned
 
 -- the records that are set
 abbrev pub items_in : Planned → List PatchItem
 items_in (PlanOnce items) = items
 items_in (PlanWrite tty from len items) = items
 items_in (PlanGrow count items) = items
+items_in (PlanFork child items) = items
+items_in (PlanPut address value items) = items
 
 -- the argument registers of a process
 abbrev pub argument_of : ProcRec → (index : ℕ) → ℕ
 argument_of process index = register process.regs (10 + index)
 
--- the process behind its call, with an answer in a0 or with none
-abbrev pub answered_process : ProcRec → (answer : ℕ) → ProcRec
-answered_process process answer = record process {
-  state = 1;
-  call = 0;
-  done = 0;
-  pc = wrapped (process.pc + 4);
-  regs = with_register process.regs 10 answer;
-}
-
+-- the process behind its call, with no answer
 abbrev pub yielded_process : ProcRec → ProcRec
 yielded_process process = record process { state = 1; call = 0; done = 0; pc = wrapped (process.pc + 4) }
 
@@ -133,13 +135,56 @@ planned_sbrk r c =
     then planned_answer c (minus 12)
     else PlanGrow (pages_more c.process bytes) (items_of c (grown_process c.process bytes))
 
--- the call with this number: exit, write, getpid, sbrk, yield; a number that is no call answers ENOSYS 38
+-- fork(): EAGAIN 11 where no slot is free or no pid is left, ENOMEM 12 where fewer user frames are free than
+-- the copy takes
+abbrev pub planned_fork_in : Records → Caller → (child : Option ℕ) → Option SigRec → Planned
+planned_fork_in r c (Some child) (Some signals) =
+    if nat_lt 256 c.head.next then planned_answer c (minus 11) else
+    if nat_lt (free_before r r.map.user_frames) (page_total c.process) then planned_answer c (minus 12) else
+    PlanFork child (fork_items c.head c.slot child c.process signals c.trap)
+planned_fork_in r c child signals = planned_answer c (minus 11)
+
+unfoldable pub planned_fork : Records → Caller → Planned
+planned_fork r c = planned_fork_in r c (least_from (λ slot. is_free r (r.procs slot)) 0 16) (r.sigs c.slot)
+
+-- a process is in the call wait (10), of which nothing is done
+abbrev pub waiting_process : ProcRec → ProcRec
+waiting_process process = record process { state = 2; call = 10; done = 0 }
+
+-- no child has ended: the process waits for one that goes on, and ECHILD 10 is answered where there is none
+abbrev pub waiting_items : Records → Caller → List PatchItem
+waiting_items r c =
+    items_of c (if has_such r (is_live_child c.process.pid) then waiting_process c.process else answered_process c.process (minus 10))
+
+-- the child in a slot is taken: its status word is stored where the address is not 0
+abbrev pub planned_take : Caller → (place : ℕ) → ProcRec → Planned
+planned_take c place child =
+    let items = wait_items c.head c.slot c.process place child.pid c.trap in
+    if argument_of c.process 0 == 0 then PlanOnce items else PlanPut (argument_of c.process 0) child.status items
+
+-- the address of a wait is not 0, and no word can be stored there
+abbrev pub refuses_status : Pages → Caller → Bool
+refuses_status pages c = not (argument_of c.process 0 == 0) && not (takes_word pages (argument_of c.process 0))
+
+-- wait(address): ECHILD 10 where the process has no child, and it blocks where none has ended; then EFAULT 14; else the
+-- pid of the first child that has ended
+abbrev pub planned_wait_on : Records → Pages → Caller → (place : Option ℕ) → (child : Option ProcRec) → Planned
+planned_wait_on r pages c (Some place) (Some child) =
+    if refuses_status pages c then planned_answer c (minus 14) else planned_take c place child
+planned_wait_on r pages c place child = PlanOnce (waiting_items r c)
+
+unfoldable pub planned_wait : Records → Pages → Caller → Planned
+planned_wait r pages c = planned_wait_on r pages c (child_slot r c.process.pid) (option_and_then r.procs (child_slot r c.process.pid))
+
+-- the call with this number: exit, write, getpid, sbrk, fork, wait, yield; a number that is no call answers ENOSYS 38
 unfoldable pub planned_number : Records → Pages → Caller → (number : ℕ) → Planned
 planned_number r pages c number =
     if number == 1 then PlanOnce (ended_items c.head c.slot c.process (argument_of c.process 0 % 256) c.trap) else
     if number == 2 then planned_write r pages c else
     if number == 7 then planned_answer c c.process.pid else
     if number == 8 then planned_sbrk r c else
+    if number == 9 then planned_fork r c else
+    if number == 10 then planned_wait r pages c else
     if number == 18 then PlanOnce (items_of c (yielded_process c.process)) else
     planned_answer c (minus 38)
 
@@ -159,14 +204,16 @@ unfoldable pub planned_call : Records → WordMap → (slot trap : ℕ) → Head
 planned_call r words slot trap head process bank =
     planned_number r (pages_of r words slot process) (caller_with slot trap head (saved_process process bank)) (register bank.regs 17)
 
--- a further piece of the call that the process in a slot is in: of a write; the others are not built
+-- a further piece of the call that the process in a slot is in: of a write, and of a wait, which begins again; the others
+-- are not built
 abbrev pub planned_further : Pages → Caller → Option DescRec → Planned
 planned_further pages c (Some description) = planned_on pages c description c.process.done
 planned_further pages c None = planned_nothing c
 
 abbrev pub planned_of_call : Records → Pages → Caller → Planned
 planned_of_call r pages c =
-    if c.process.call == 2 then planned_further pages c (named r c.process.descs (argument_of c.process 0)) else planned_nothing c
+    if c.process.call == 2 then planned_further pages c (named r c.process.descs (argument_of c.process 0)) else
+    if c.process.call == 10 then planned_wait r pages c else planned_nothing c
 
 unfoldable pub planned_piece : Records → WordMap → (slot trap : ℕ) → HeadRec → ProcRec → Planned
 planned_piece r words slot trap head process = planned_of_call r (pages_of r words slot process) (caller_with slot trap head process)

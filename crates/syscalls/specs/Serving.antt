@@ -11,11 +11,13 @@ use Rattle.record_layouts.specs.Pages.{is_live, is_mapped}
 use Rattle.record_layouts.specs.Patch.{IsPatch}
 use Rattle.record_layouts.specs.Sound.{IsInCall}
 use Rattle.process_table.specs.Patches.{bank_of, saved_process}
-use Rattle.address_space.specs.Spaces.{CanGrow}
+use Rattle.record_layouts.specs.Unix.Spaces.{takes_word}
+use Rattle.frame_table.specs.Maps.{framed_pages}
+use Rattle.address_space.specs.Spaces.{CanCopy, CanGrow}
 use Rattle.syscalls.specs.declared.caller.Caller.{Caller}
 use Rattle.syscalls.specs.declared.service.Service.{Service}
 use Rattle.syscalls.specs.declared.service.Service.TheVariants as service
-use Rattle.syscalls.specs.Planned.{Planned, PlanGrow, PlanOnce, PlanWrite, pages_in, planned_call, planned_piece}
+use Rattle.syscalls.specs.Planned.{Planned, PlanFork, PlanGrow, PlanOnce, PlanPut, PlanWrite, pages_in, planned_call, planned_piece}
 
 -- a caller can be served: its records can be spelled, it has a slot and goes on
 pub record IsCaller (c : Caller) : Type 0 where
@@ -29,6 +31,8 @@ abbrev pub plan_of : Service → Planned
 plan_of (service.Once patch) = PlanOnce patch.items.items
 plan_of (service.TtyWrite tty from len patch) = PlanWrite tty from len patch.items.items
 plan_of (service.Grow count patch) = PlanGrow count patch.items.items
+plan_of (service.Fork child patch) = PlanFork child patch.items.items
+plan_of (service.PutStatus address status patch) = PlanPut address status patch.items.items
 
 -- the service of the process in a slot is the one that its call asks for
 abbrev pub IsCallOf : Records → WordMap → (slot trap : ℕ) → Bank → Service → Type 0
@@ -51,6 +55,8 @@ abbrev pub IsDoable : Records → WordMap → (slot : ℕ) → Service → Type 
 IsDoable r words slot (service.Once patch) = IsPatch patch.items.items
 IsDoable r words slot (service.TtyWrite tty from len patch) = IsPatch patch.items.items × IsWritable r words slot tty from len
 IsDoable r words slot (service.Grow count patch) = IsPatch patch.items.items × IfSome (r.procs slot) (CanGrow r slot count)
+IsDoable r words slot (service.Fork child patch) = IsPatch patch.items.items × (child < 16) × IfSome (r.procs slot) (CanCopy r slot child)
+IsDoable r words slot (service.PutStatus address status patch) = IsPatch patch.items.items × (takes_word (framed_pages r words slot) address ≡ true)
 
 -- a call in a slot can be served: every record decodes, and each page has a frame
 pub record CanCall (r : Records) (slot : ℕ) : Type 0 where

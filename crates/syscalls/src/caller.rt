@@ -1,12 +1,12 @@
 //! A process in its trap, and what its record becomes there.
 
-ghost use Rattle.std.specs.Prelude.{◌≡◌, ◌+◌, ◌<◌, ◌≤◌, ◌↔◌, IsTrue};
+ghost use Rattle.std.specs.Prelude.{◌≡◌, ◌+◌, ◌<◌, ◌≤◌};
 ghost use Rattle.ow_base.specs.Words.{minus};
 ghost use Rattle.record_layouts.specs.Head.{FitsHead};
 ghost use Rattle.record_layouts.specs.Patch.{IsPatch};
 ghost use Rattle.record_layouts.specs.Proc.{FitsProc};
 ghost use Rattle.syscalls.specs.Serving.{IsCaller};
-ghost use Rattle.syscalls.specs.Planned.{answered_process, argument_of, break_of, grown_process, pages_more, staying_process, stopped_answer, items_of, written_process, yielded_process};
+ghost use Rattle.syscalls.specs.Planned.{answered_process, argument_of, break_of, grown_process, pages_more, staying_process, stopped_answer, items_of, waiting_process, written_process, yielded_process};
 
 use ow_base::Errno;
 use record_layouts::{AnyRec, CODE_PAGE, HeadRec, Patch, ProcRec, RecordId};
@@ -22,8 +22,10 @@ const OUTSIDE: u32 = 1;
 
 const IN_CALL: u32 = 2;
 
-// The number of the call write.
+// The numbers of the calls that a process can be in: write and wait.
 pub(crate) const WRITE: u32 = 2;
+
+pub(crate) const WAIT: u32 = 10;
 
 // A process in its trap: its record has the registers with which it made its call.
 #[derive(Clone, Copy)]
@@ -41,13 +43,6 @@ impl Caller {
         ensures { result ≡ argument_of self.now.process index }
     {
         self.process.regs.get(ARGUMENTS + index)
-    }
-
-    // The call that the process is in is a write.
-    pub(crate) fn is_in_write(&self) -> bool
-        ensures { IsTrue result ↔ self.now.process.call ≡ 2 }
-    {
-        self.process.call == WRITE
     }
 
     // The trap ends, and the process becomes this.
@@ -159,6 +154,20 @@ impl Caller {
             state: IN_CALL,
             call: WRITE,
             done,
+            ..self.process
+        })
+    }
+
+    // The process waits for a child.
+    pub(crate) fn waits(&self) -> Patch
+        requires { IsCaller self.now }
+        ensures items { result.items.items ≡ items_of self.now (waiting_process self.now.process) }
+        ensures patch { IsPatch result.items.items }
+    {
+        self.becomes(ProcRec {
+            state: IN_CALL,
+            call: WAIT,
+            done: 0,
             ..self.process
         })
     }

@@ -28,8 +28,8 @@ pub const fn calls_are_entered()
         → unix_of done done_words done_tapes InKernel (steps + 1) (traps + 1) ≡ call_entered (unix_of r words tapes (InUser process.pid count bank) steps traps) process.pid p }
 {}
 
-/// Once what the process in a call asks for is done, the records and tapes stand for the state in which it has made a
-/// further piece. No word of a page becomes another.
+/// Once what the process in a call asks for is done, the records, the words of pages and the tapes stand for the state in
+/// which it has made a further piece. No word of a page becomes another where the call is a write (2).
 pub const fn pieces_go_on()
     ensures unix { (r : Records) (words : WordMap) (tapes : ℕ → List ℕ) (slot trap : ℕ) (head : HeadRec) (process : ProcRec)
         (steps traps : ℕ) (p : Process) (done : Records) (done_words : WordMap) (done_tapes : ℕ → List ℕ)
@@ -38,7 +38,7 @@ pub const fn pieces_go_on()
         → IsDone r words tapes slot process (planned_piece r words slot trap head process) done done_words done_tapes
         → unix_of done done_words done_tapes InKernel (steps + 1) (traps + 1) ≡ piece_of (unix_of r words tapes InKernel steps traps) process.pid p }
     ensures words { (r : Records) (words : WordMap) (tapes : ℕ → List ℕ) (slot trap : ℕ) (head : HeadRec) (process : ProcRec)
-        (done : Records) (done_words : WordMap) (done_tapes : ℕ → List ℕ)
+        (done : Records) (done_words : WordMap) (done_tapes : ℕ → List ℕ) → process.call ≡ 2
         → IsDone r words tapes slot process (planned_piece r words slot trap head process) done done_words done_tapes
         → done_words ≡ words }
 {}

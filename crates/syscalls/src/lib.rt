@@ -4,6 +4,7 @@
 
 mod caller;
 mod calls;
+mod children;
 mod laws;
 mod service;
 

@@ -23,4 +23,17 @@ pub enum Service {
         count: u32,
         patch: Patch,
     },
+    /// The pages of the process are copied for the slot of its child, and then the patch is committed, which makes the
+    /// child.
+    Fork {
+        child: u32,
+        patch: Patch,
+    },
+    /// The status word of a child that has ended is stored at an address of the process, and then the patch is committed,
+    /// which frees the child's slot.
+    PutStatus {
+        addr: u32,
+        status: u32,
+        patch: Patch,
+    },
 }

@@ -1,10 +1,11 @@
 -- The system calls: the number is in a7, the arguments are in a0, a1 and a2, and the answer comes in a0.
-use Rattle.std.specs.Prelude.{ℕ, ◌+◌, ◌-◌, ◌%◌, Bool, true, false, nat_lt, ◌==◌, ◌||◌, not, if◌then◌else◌, min, List, ◌++◌, slice_get, Option, Some, None, option_and_then, is_some}
+use Rattle.std.specs.Prelude.{ℕ, ◌+◌, ◌-◌, ◌%◌, Bool, true, false, nat_lt, nat_le, ◌==◌, ◌&&◌, ◌||◌, not, if◌then◌else◌, min, List, ◌++◌, slice_get, Option, Some, None, option_and_then, is_some}
 use Rattle.ow_base.specs.Words.{wrapped, minus, updated}
 use Rattle.ow_base.specs.UserStep.{register, with_register}
 use Rattle.ow_base.specs.Pages.{is_readable, bytes_at}
-use Rattle.record_layouts.specs.Unix.Spaces.{break_of, heap_end, heap_pages, pages_of_all, with_zero_pages}
-use Rattle.record_layouts.specs.Unix.State.{Unix, Process, CallState, Out, In, AtKernel, EndedChild, Object, OnFile, OnTty, Description, Terminal, in_use}
+use Rattle.record_layouts.specs.Unix.Children.{ended_child, has_child, status_of}
+use Rattle.record_layouts.specs.Unix.Spaces.{break_of, heap_end, heap_pages, pages_of_all, pages_of_one, takes_word, with_word, with_zero_pages}
+use Rattle.record_layouts.specs.Unix.State.{count_from, most_pids, Unix, Process, CallState, Out, In, AtKernel, EndedChild, Object, OnFile, OnTty, Description, Terminal, in_use}
 
 -- the argument registers, and the register of the call's number
 abbrev pub argument : Process → (index : ℕ) → ℕ
@@ -125,6 +126,64 @@ sbrk_entry u pid p =
     then answered u pid p (minus 12)
     else answered u pid (record p { brk = p.brk + argument p 0; pages = with_zero_pages p.pages (heap_end p.pages) new }) (break_of p)
 
+-- a pid has a slot: it is of a live process, or of an ended one that was not waited for
+abbrev pub has_slot : Unix → (pid : ℕ) → Bool
+has_slot u pid = is_some (u.processes pid) || is_some (u.ended pid)
+
+-- how many slots are taken
+unfoldable pub slots_taken : Unix → ℕ
+slots_taken u = count_from (has_slot u) 1 most_pids
+
+-- the child of a process: a copy behind the call, to which it answers 0, with the process as its parent and no signal pending
+abbrev pub child_of_fork : (parent : ℕ) → Process → Process
+child_of_fork parent p = record p {
+  call = Out;
+  bank = record { pc = wrapped (p.bank.pc + 4); regs = with_register p.bank.regs 10 0 };
+  pending = λ _. false;
+  parent = parent;
+}
+
+-- the state with a child of the process, under the next pid
+abbrev pub with_child : Unix → (pid : ℕ) → Process → Unix
+with_child u pid p = record (with_process u u.next_pid (child_of_fork pid p)) { next_pid = u.next_pid + 1 }
+
+-- fork(): EAGAIN 11 where all 16 slots are taken or 256 processes were made, ENOMEM 12 where there is no room for a copy of
+-- the pages; else the child's pid
+unfoldable pub fork_entry : Unix → (pid : ℕ) → Process → Unix
+fork_entry u pid p =
+    if nat_le 16 (slots_taken u) || nat_lt most_pids u.next_pid then answered u pid p (minus 11) else
+    if nat_lt u.room (pages_of_all u.processes + pages_of_one (Some p)) then answered u pid p (minus 12) else
+    answered (with_child u pid p) pid p u.next_pid
+
+-- the word that a wait stores of the status of its child: none where its address is 0
+abbrev pub asks_status : Process → Bool
+asks_status p = not (argument p 0 == 0)
+
+abbrev pub with_status : Process → (status : ℕ) → Process
+with_status p status = record p { pages = with_word p.pages (argument p 0) status }
+
+-- a child is waited for: its slot is free, and its status word is stored where it is asked for
+abbrev pub waited_by : Process → (status : ℕ) → Process
+waited_by p status = if asks_status p then with_status p status else p
+
+abbrev pub without_child : Unix → (pid : ℕ) → Unix
+without_child u pid = record u { ended = updated u.ended pid None }
+
+-- the address of a wait cannot be written
+abbrev pub refuses_status : Process → Bool
+refuses_status p = asks_status p && not (takes_word p.pages (argument p 0))
+
+-- wait(address): ECHILD 10 where the process has no child, and it blocks where none has ended; then EFAULT 14 where the address is
+-- not 0 and no word can be stored there; else the least pid of the children that have ended
+abbrev pub wait_for : Unix → (pid : ℕ) → Process → (child : Option ℕ) → Unix
+wait_for u pid p None = if has_child u pid then stays_in u pid p 10 0 else answered u pid p (minus 10)
+wait_for u pid p (Some child) =
+    if refuses_status p then answered u pid p (minus 14) else
+    answered (without_child u child) pid (waited_by p (status_of (u.ended child))) child
+
+unfoldable pub wait_entry : Unix → (pid : ℕ) → Process → Unix
+wait_entry u pid p = wait_for u pid p (ended_child u pid)
+
 -- the call with this number; a number that is no call answers ENOSYS 38
 unfoldable pub called : Unix → (pid : ℕ) → Process → (number : ℕ) → Unix
 called u pid p number =
@@ -132,6 +191,8 @@ called u pid p number =
     if number == 2 then write_entry u pid p else
     if number == 7 then getpid_entry u pid p else
     if number == 8 then sbrk_entry u pid p else
+    if number == 9 then fork_entry u pid p else
+    if number == 10 then wait_entry u pid p else
     if number == 18 then yield_entry u pid p else
     answered u pid p (minus 38)
 
@@ -144,10 +205,12 @@ abbrev pub piece_on : Unix → (pid : ℕ) → Process → (done : ℕ) → Opti
 piece_on u pid p done (Some d) = write_on u pid p done d.object
 piece_on u pid p done None = u
 
--- a further piece of the call with this number that a process is in: of a write; others are not built, and nothing
--- more becomes of them
+-- a further piece of the call with this number that a process is in: of a write, and of a wait, which begins again;
+-- others are not built, and nothing more becomes of them
 unfoldable pub continued : Unix → (pid : ℕ) → Process → (number done : ℕ) → Unix
-continued u pid p number done = if number == 2 then piece_on u pid p done (description_of u p (argument p 0)) else u
+continued u pid p number done =
+    if number == 2 then piece_on u pid p done (description_of u p (argument p 0)) else
+    if number == 10 then wait_entry u pid p else u
 
 -- Piece
 abbrev pub piece_by : Unix → (pid : ℕ) → Process → CallState → Unix

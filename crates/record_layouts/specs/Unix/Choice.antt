@@ -1,7 +1,9 @@
 -- Which process is next.
 use Rattle.std.specs.Prelude.{ℕ, zero, suc, ◌+◌, ◌-◌, Bool, true, false, nat_lt, not, ◌==◌, ◌||◌, if◌then◌else◌, Option, Some, None, is_some}
 unfoldable pub use Rattle.record_layouts.specs.Unix.State.{least_from}
-use Rattle.record_layouts.specs.Unix.State.{most_pids, Unix, Process, EndedChild, Description, Object, OnFile, OnTty, CallState, Out, In, Position, AtKernel, AtUser, AtPanic}
+unfoldable pub use Rattle.record_layouts.specs.Unix.Children.{is_any}
+use Rattle.record_layouts.specs.Unix.Children.{has_child, has_ended_child}
+use Rattle.record_layouts.specs.Unix.State.{most_pids, Unix, Process, Description, Object, OnFile, OnTty, CallState, Out, In, Position, AtKernel, AtUser, AtPanic}
 use Rattle.record_layouts.specs.Unix.Calls.{argument, description_of}
 
 -- of each terminal, how many of its typed bytes have arrived by the coming trap, and how many there are in all
@@ -22,26 +24,6 @@ unfoldable pub deliverable : Process → Option ℕ
 deliverable p =
     if p.pending 9 then Some 9 else
     if is_some p.handler_save then None else least_from p.pending 1 15
-
--- a process has a child that is live, or one that has ended and was not waited for, among so many pids
-abbrev pub is_child_of : (parent : ℕ) → Option Process → Bool
-is_child_of parent (Some p) = p.parent == parent
-is_child_of parent None = false
-
-abbrev pub is_ended_child_of : (parent : ℕ) → Option EndedChild → Bool
-is_ended_child_of parent (Some child) = child.parent == parent
-is_ended_child_of parent None = false
-
--- one of so many numbers from the first on passes
-unfoldable pub is_any : (test : ℕ → Bool) → (first count : ℕ) → Bool
-is_any test first zero = false
-is_any test first (suc n) = test first || is_any test (first + 1) n
-
-unfoldable pub has_ended_child : Unix → (parent : ℕ) → Bool
-has_ended_child u parent = is_any (λ pid. is_ended_child_of parent (u.ended pid)) 1 most_pids
-
-unfoldable pub has_child : Unix → (parent : ℕ) → Bool
-has_child u parent = is_any (λ pid. is_child_of parent (u.processes pid)) 1 most_pids
 
 -- a read of a terminal can go on where the next typed byte has arrived, or all have and there is no next one
 abbrev pub read_from : Keys → Unix → Object → Bool

@@ -1,7 +1,9 @@
 -- What calls make of the pages of a process.
-use Rattle.std.specs.Prelude.{ℕ, ◌+◌, ◌-◌, ◌*◌, ◌/◌, not, if◌then◌else◌, List, length, slice_index, Option, Some, None, is_some}
-use Rattle.ow_base.specs.Pages.{Pages}
-use Rattle.ow_base.specs.declared.machine.Rights.TheVariants.{Values}
+use Rattle.std.specs.Prelude.{ℕ, ◌+◌, ◌-◌, ◌*◌, ◌/◌, ◌%◌, Bool, true, false, not, ◌==◌, ◌&&◌, if◌then◌else◌, List, length, slice_index, Option, Some, None, is_some}
+use Rattle.ow_base.specs.Pages.{Pages, rights_at}
+use Rattle.ow_base.specs.Sv32.{byte_of}
+use Rattle.ow_base.specs.declared.machine.Rights.{Rights}
+use Rattle.ow_base.specs.declared.machine.Rights.TheVariants.{Code, Values}
 use Rattle.record_layouts.specs.Unix.State.{Process, count_from, is_within, least_from, most_pids, sum_from}
 
 -- so many pages from one on are new: pages of values of which each byte is 0
@@ -17,6 +19,22 @@ with_bytes pages address bytes = record {
   rights = pages.rights;
   bytes = λ a. if is_within address (length bytes) a then slice_index bytes (a - address) else pages.bytes a;
 }
+
+-- a word is stored at an address
+unfoldable pub with_word : Pages → (address value : ℕ) → Pages
+with_word pages address value = record {
+  rights = pages.rights;
+  bytes = λ a. if is_within address 4 a then byte_of value (a - address) else pages.bytes a;
+}
+
+-- a word can be stored at an address: it is a multiple of four in a page that can be written
+abbrev pub are_values : Option Rights → Bool
+are_values (Some Values) = true
+are_values (Some Code) = false
+are_values None = false
+
+abbrev pub takes_word : Pages → (address : ℕ) → Bool
+takes_word pages address = address % 4 == 0 && are_values (rights_at pages address)
 
 -- how many pages a process has: they lie below 0x00400000, but for the four of its stack
 abbrev pub pages_of_one : Option Process → ℕ

@@ -18,6 +18,8 @@ short : (r : Records) (words : WordMap) (slot : ℕ) (s : Service) → IsDoable 
 short r words slot (service.Once patch) doable = tt
 short r words slot (service.TtyWrite tty from len patch) doable = (doable.1.terminal, doable.1.most)
 short r words slot (service.Grow count patch) doable = tt
+short r words slot (service.Fork child patch) doable = tt
+short r words slot (service.PutStatus address status patch) doable = tt
 
 -- an end that is refused changes nothing that is held
 unstored_end : (s done : PlantState) → IsUnstored s done → IsUnstored s (leave_refused done)

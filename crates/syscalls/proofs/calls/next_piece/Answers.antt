@@ -15,12 +15,12 @@ pub unwrap-description-requires : goal.unwrap-description-requires
 unwrap-description-requires g c =
     let r = g.V.RecordView.records c.args.view.now in
     let there : r.procs c.args.slot ≡ Some c.unwrap.result = sym c.proc.ensures.record ∙ c.unwrap.ensures in
-    let is : InWrite r c.unwrap.result = in_write r c.unwrap.result (g.met.V.RecordView.values c.args.view.now) (call_in r c.args.slot c.unwrap.result there c.requires.inside) (c.is_in_write.ensures.0 c.if-not-is_in_write.false) in
+    let is : InWrite r c.unwrap.result = in_write r c.unwrap.result (g.met.V.RecordView.values c.args.view.now) (call_in r c.args.slot c.unwrap.result there c.requires.inside) c.in-2.is in
     some_is c.look.result is.description (found r c.args.slot c.argument.result c.unwrap.result c.look.result there c.argument.ensures c.look.ensures.named is)
 
 pub piece-requires-clause-left : goal.piece-requires-clause-left
 piece-requires-clause-left g c =
     let r = g.V.RecordView.records c.args.view.now in
     let there : r.procs c.args.slot ≡ Some c.unwrap.result = sym c.proc.ensures.record ∙ c.unwrap.ensures in
-    let is : InWrite r c.unwrap.result = in_write r c.unwrap.result (g.met.V.RecordView.values c.args.view.now) (call_in r c.args.slot c.unwrap.result there c.requires.inside) (c.is_in_write.ensures.0 c.if-not-is_in_write.false) in
+    let is : InWrite r c.unwrap.result = in_write r c.unwrap.result (g.met.V.RecordView.values c.args.view.now) (call_in r c.args.slot c.unwrap.result there c.requires.inside) c.in-2.is in
     is.transfer.left
