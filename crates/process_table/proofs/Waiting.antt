@@ -72,15 +72,17 @@ earlier_found r parent pid child less =
 earlier_by : (r : Records) (parent pid slot : ℕ) (held : Option ProcRec) → slot < 16 → r.procs slot ≡ held → is_earlier_child parent pid held ≡ true
     → (child : Ended r parent) × (child.process.pid < pid)
 earlier_by r parent pid slot None within there passes = absurd (cc passes)
-earlier_by r parent pid slot (Some process) within there passes =
-    (record {
-      slot = slot;
-      process = process;
-      within = within;
-      there = there;
-      state = grind (arith, nat_tests, passes);
-      parent_is = grind (arith, nat_tests, passes);
-    }, grind (arith, nat_tests, passes))
+earlier_by r parent pid slot (Some process) within there passes = (
+  record {
+    slot = slot;
+    process = process;
+    within = within;
+    there = there;
+    state = grind (arith, nat_tests, passes);
+    parent_is = grind (arith, nat_tests, passes);
+  },
+  grind (arith, nat_tests, passes),
+)
 
 earlier_child : (r : Records) (parent pid : ℕ) → has_such r (is_earlier_child parent pid) ≡ true → (child : Ended r parent) × (child.process.pid < pid)
 earlier_child r parent pid such =
@@ -112,10 +114,10 @@ first_by r parent slot (Some process) within there passes =
     elim (cases_Bool (has_such r (is_earlier_child parent process.pid))) [
       | inl such ↦ absurd (grind (arith, nat_tests, passes, such))
       | inr first ↦ record {
-          child = record { slot = slot; process = process; within = within; there = there; state = grind (arith, nat_tests, passes); parent_is = grind (arith, nat_tests, passes) };
-          same = refl;
-          first = first;
-        }
+        child = record { slot = slot; process = process; within = within; there = there; state = grind (arith, nat_tests, passes); parent_is = grind (arith, nat_tests, passes) };
+        same = refl;
+        first = first;
+      }
     ]
 
 first_child : (r : Records) (parent slot : ℕ) → child_slot r parent ≡ Some slot → First r parent slot
@@ -166,15 +168,17 @@ module _ (r : Records) (words : WordMap) (context : Context) (parent : ℕ) wher
   child_at pid (Some place) there child =
       let other = ended_there (r.procs place) pid (least_passes (λ k. is_ended_as pid (r.procs k)) 0 16 place there) in
       let within = least_within (λ k. is_ended_as pid (r.procs k)) 0 16 place there in
-      let by_record = subst (λ (held : Option ProcRec). is_ended_child_of parent (ended_by live_in held) ≡ true) other.1 child in
-      (record {
-        slot = place;
-        process = other.0;
-        within = omega (arith, within.1);
-        there = other.1;
-        state = other.2;
-        parent_is = child_parent other.0 by_record;
-      }, other.3)
+      let by_record = subst (λ (held : Option ProcRec). is_ended_child_of parent (ended_by live_in held) ≡ true) other.1 child in (
+        record {
+          slot = place;
+          process = other.0;
+          within = omega (arith, within.1);
+          there = other.1;
+          state = other.2;
+          parent_is = child_parent other.0 by_record;
+        },
+        other.3,
+      )
 
   child_of : (pid : ℕ) → waits_for pid ≡ true → (child : Ended r parent) × (child.process.pid ≡ pid)
   unfolding ended_of
