@@ -29,15 +29,18 @@ enum After {
 
 use After::{Behind, Ended, Inside, Wrong};
 
-// What is to be done before the patch: bytes go to terminal 1, by their address and number, or so many pages are prepared.
+// What is to be done before the patch: bytes go to terminal 1, by their address and number, so many pages are prepared,
+// the pages are copied for a slot, or a word is stored at an address.
 #[derive(Clone, Copy, Debug, PartialEq, Eq)]
 enum Work {
     Nothing,
     Bytes(u32, u32),
     Pages(u32),
+    Copies(u32),
+    Word(u32, u32),
 }
 
-use Work::{Bytes, Nothing, Pages};
+use Work::{Bytes, Copies, Nothing, Pages, Word};
 
 // What is to be done, and what becomes of the process.
 type Asked = (Work, After);
@@ -97,6 +100,12 @@ fn asked(service: &Service, pc: u32) -> Asked {
             (work, becomes(patch, pc))
         }
         Service::Grow { count, patch } => (Pages(*count), becomes(patch, pc)),
+        Service::Fork { child, patch } => (Copies(*child), becomes(patch, pc)),
+        Service::PutStatus {
+            addr,
+            status,
+            patch,
+        } => (Word(*addr, *status), becomes(patch, pc)),
     }
 }
 
@@ -136,6 +145,10 @@ fn continued(call: u32, address: u32, count: u32, done: u32) -> Option<Asked> {
 
 const EBADF: After = Behind(0xffff_fff7);
 
+const ECHILD: After = Behind(0xffff_fff6);
+
+const EAGAIN: After = Behind(0xffff_fff5);
+
 const ENOMEM: After = Behind(0xffff_fff4);
 
 const EFAULT: After = Behind(0xffff_fff2);
@@ -146,7 +159,7 @@ const ENOSYS: After = Behind(0xffff_ffda);
 
 // The number of the call, its arguments, and whether the descriptor only reads; what is to be
 // done, and what becomes of the process.
-const CALLS: [(u32, [u32; 3], bool, Work, After); 26] = [
+const CALLS: [(u32, [u32; 3], bool, Work, After); 28] = [
     (2, [1, 0, 0], false, Nothing, EBADF),
     (2, [8, 0x10000, 3], false, Nothing, EBADF),
     (2, [0xffff_ffff, 0x10000, 3], false, Nothing, EBADF),
@@ -183,6 +196,9 @@ const CALLS: [(u32, [u32; 3], bool, Work, After); 26] = [
     (8, [0xb001, 0, 0], false, Nothing, ENOMEM),
     (8, [0x3e_f001, 0, 0], false, Nothing, ENOMEM),
     (8, [0xffff_ffff, 0, 0], false, Nothing, ENOMEM),
+    // No slot can be taken, and no process has this one as its parent.
+    (9, [5, 0, 0], false, Nothing, EAGAIN),
+    (10, [5, 0, 0], false, Nothing, ECHILD),
     (18, [5, 0, 0], false, Nothing, Behind(5)),
     (3, [0, 0x10000, 3], false, Nothing, ENOSYS),
     (0xffff_ffff, [5, 0, 0], false, Nothing, ENOSYS),
