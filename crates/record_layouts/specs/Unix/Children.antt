@@ -1,5 +1,5 @@
 -- The children of a process: those that are live, and those that have ended and were not waited for.
-use Rattle.std.specs.Prelude.{ℕ, zero, suc, ◌+◌, Bool, true, false, ◌==◌, ◌||◌, Option, Some, None, option_and_then}
+use Rattle.std.specs.Prelude.{ℕ, zero, suc, ◌+◌, Bool, false, ◌==◌, ◌||◌, Option, Some, None}
 use Rattle.record_layouts.specs.Unix.State.{most_pids, least_from, Unix, Process, EndedChild}
 
 -- a process has a child that is live, or one that has ended and was not waited for, among so many pids
