@@ -1,5 +1,6 @@
 //! The processes of a kernel: which one is next, and what its record becomes when its slice ends, when a signal goes
-//! to it and when it ends. All is read from a view of records, and what is to be changed is answered as a patch.
+//! to it, when it forks or takes a child that has ended, and when it ends. All is read from a view of records, and what
+//! is to be changed is answered as a patch.
 #![tactic(auto)]
 
 mod children;

@@ -236,16 +236,16 @@ fn serve<V: RecordView>(view: &V, caller: &Caller, number: u32, user_frames: u32
 /// What the call of the process in the slot asks for, in the trap `now.trap`.
 ///
 /// The process is live and outside a call, and `bank` is what the processor has of it: the number of the call is in a7
-/// and its arguments are in a0, a1 and a2. The calls are exit (1), write (2), getpid (7), sbrk (8), fork (9), wait
-/// (10) and yield (18); every other number answers ENOSYS. A write answers EBADF where the descriptor stands for nothing that is open to
-/// write, then EINVAL where the count is above 0x7fffffff, then 0 where it is 0; else it makes its first piece, of at
-/// most 16 bytes, which answers EFAULT where a byte of it cannot be read. An sbrk answers where the break was, and
-/// ENOMEM where the break would pass 0x00400000 or fewer user frames are free than the heap takes pages more. A fork
-/// answers EAGAIN where no slot can be taken or all 256 pids have been given away, then ENOMEM where fewer user frames are
-/// free than the process has pages, and else the pid of its child. A wait answers ECHILD where the process has no child,
-/// and leaves it in the call where none of them has ended; then EFAULT where the address is not 0 and not a multiple of
-/// four in a page that it can write; else the least pid of the children that have ended. Errors change nothing else. Writes on files are not built: the trap of one is served, and the process is left before its
-/// call.
+/// and its arguments are in a0, a1 and a2. The calls are exit (1), write (2), getpid (7), sbrk (8), fork (9), wait (10)
+/// and yield (18); every other number answers ENOSYS. A write answers EBADF where the descriptor stands for nothing that
+/// is open to write, then EINVAL where the count is above 0x7fffffff, then 0 where it is 0; else it makes its first
+/// piece, of at most 16 bytes, which answers EFAULT where a byte of it cannot be read. An sbrk answers where the break
+/// was, and ENOMEM where the break would pass 0x00400000 or fewer user frames are free than the heap takes pages more. A
+/// fork answers EAGAIN where no slot can be taken or all 256 pids have been given away, then ENOMEM where fewer user
+/// frames are free than the process has pages, and else the pid of its child. A wait answers ECHILD where the process has
+/// no child, and leaves it in the call where none of them has ended; then EFAULT where the address is not 0 and not a
+/// multiple of four in a page that it can write; else the least pid of the children that have ended. Errors change
+/// nothing else. Writes on files are not built: the trap of one is served, and the process is left before its call.
 ///
 /// Every record decodes, each page of the process has a frame, and `now.user_frames` says how many user frames there
 /// are.
@@ -274,9 +274,10 @@ pub fn enter_call<V: RecordView>(view: &V, slot: u32, bank: &Bank, now: &Now) ->
 
 /// A further piece of the call that the live process in the slot is in, in the trap `now.trap`.
 ///
-/// A piece of a wait (10) is the call again. A piece of a write (2) takes at most 16 bytes. The call answers its count with the last piece, and the bytes done
-/// before where a byte of the piece cannot be read; else the process stays in the call. Pieces of other calls and of
-/// writes on files are not built: the trap of one is served, and the process is left as it is.
+/// A piece of a wait (10) is the call again. A piece of a write (2) takes at most 16 bytes. The call answers its count
+/// with the last piece, and the bytes done before where a byte of the piece cannot be read; else the process stays in the
+/// call. Pieces of other calls and of writes on files are not built: the trap of one is served, and the process is left
+/// as it is.
 ///
 /// Every record decodes, and each page of the process has a frame.
 #[tactic(auto, unfolding(crate::specs::Planned::planned_piece))]

@@ -1,5 +1,5 @@
 //! The system calls: what the call of a process asks of the kernel. All is read from a view of records, and what is to
-//! be done is answered as a service. The calls are exit, write on terminals, getpid, sbrk and yield.
+//! be done is answered as a service. The calls are exit, write on terminals, getpid, sbrk, fork, wait and yield.
 #![tactic(auto)]
 
 mod caller;
